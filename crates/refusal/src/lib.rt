@@ -1,0 +1,74 @@
+// The questions of document 01, 'The questions, in order', as refusals: one case for each question that can turn
+// something away, with its number. `Invalid` is model.rs's; the others that codec.rs names keep their names.
+ghost use mathlib.Core.Path.{_≡_};
+ghost use Rattle.refusal.specs.Number.{numberOf};
+
+// Why a workout cannot be played.
+pub enum Invalid {
+    NoSteps,
+    // A block reaches past the steps, overlaps another or repeats nothing.
+    Block,
+    // A step that can never end or a target out of range.
+    Step,
+    // Repeats expand past MAX_PLAYED.
+    TooLong,
+}
+
+// Which question turned the input or the call away.
+pub enum Refusal {
+    Length,
+    Magic,
+    Version,
+    Checksum,
+    Field,
+    Invalid(Invalid),
+    Profile,
+    Cadence,
+    Update,
+    Totals,
+    EventPlaces,
+    Extra,
+    SheetLength,
+    Act,
+    Record,
+    Output,
+    Standing,
+}
+
+impl Refusal {
+    // The number of document 01's question.
+    pub fn number(self) -> u32
+        ensures { λ r. ⌜ r ≡ numberOf self ⌝ }
+    {
+        match self {
+            Refusal::Length => 1,
+            Refusal::Magic => 2,
+            Refusal::Version => 3,
+            Refusal::Checksum => 4,
+            Refusal::Field => 5,
+            Refusal::Invalid(invalid) => match invalid {
+                Invalid::NoSteps => 6,
+                Invalid::Block => 7,
+                Invalid::Step => 8,
+                Invalid::TooLong => 9,
+            },
+            Refusal::Profile => 10,
+            Refusal::Cadence => 11,
+            Refusal::Update => 12,
+            Refusal::Totals => 13,
+            Refusal::EventPlaces => 14,
+            Refusal::Extra => 15,
+            Refusal::SheetLength => 16,
+            Refusal::Act => 17,
+            Refusal::Record => 18,
+            Refusal::Output => 19,
+            Refusal::Standing => 20,
+        }
+    }
+}
+
+// What asking gives: nothing turned away, or the first question that failed.
+pub enum Answer {
+    Accepted,
+    Refused(Refusal),
+}
