@@ -1,4 +1,5 @@
 -- Document 01, 'The questions, in order': the number of each question.
+use mathlib.Core.Bool.{Bool, true, false}
 use Prim.Native.Nat.{ℕ}
 use Rattle.refusal.specs.declared.Invalid.{Invalid}
 use Rattle.refusal.specs.declared.Invalid.the-variants.{NoSteps, Block, Step, TooLong}
@@ -49,6 +50,11 @@ numberOf Record = 18
 numberOf Output = 19
 -- "Player handed in standing? 20"
 numberOf Standing = 20
+
+-- Questions in order: the first that fails decides.
+abbrev pub ask : Bool → Refusal → Answer → Answer
+ask true refusal rest = rest
+ask false refusal rest = Refused refusal
 
 -- 0 where nothing is turned away: no question has that number
 abbrev pub answerNumber : Answer → ℕ
