@@ -2,7 +2,7 @@
 use mathlib.Core.Path.{_≡_, refl, sym, ap, ap₂, _∙_}
 use mathlib.Core.List.{List, [], _∷_, _++_, append-assoc}
 use Prim.Native.Nat.{ℕ, zero, suc, _+_, _*_, _/_, _%_, _^_, _<_, _≤_}
-use native.Mathlib.Nat.{pow-suc, mul-comm, mul-assoc, suc-add, add-assoc, div-div-eq-div-mul, div-one, zero-add, one-le-pow, mod-eq-of-lt, mod-lt}
+use native.Mathlib.Nat.{pow-suc, mul-comm, mul-assoc, suc-add, div-div-eq-div-mul, div-one, zero-add, one-le-pow, mod-eq-of-lt, mod-lt}
 use native.Mathlib.Numerals.{add-one}
 use native.Mathlib.Omega.{arith}
 use lib.Arith.{mod-mul}
