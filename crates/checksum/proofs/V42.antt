@@ -7,9 +7,9 @@ use native.Mathlib.Nat.{zero-mul, pow-suc}
 use native.Mathlib.Omega.{arith}
 use lib.Bits.{bitXor, differ, xor-step, xor-comm, xor-zero-r, xor-lt}
 use lib.Dec.{eqb, lit<}
-use lib.ListN.{length, drop, replicate, length-append}
+use lib.ListN.{length, replicate, length-append}
 use Rattle.le.specs.Le.{Bytes}
-use Rattle.checksum.specs.V42.{Poly, plus, add, generator, remainder, digits, bits, frameCheck, digit, number, checkOf}
+use Rattle.checksum.specs.V42.{Poly, plus, add, lower, remainder, digits, bits, frameCheck, digit, number, checkOf}
 use Rattle.checksum.specs.Register.{polynomial, ones, shift, shifts, bitwise, shiftRegister, byteStep, bytewise, tableRegister}
 use Rattle.checksum.proofs.Xor.{bit-lt}
 use Rattle.checksum.proofs.Register.{shifts-xor, shifts-shifted, bitwise-shifts, bitwise-append, bitwise-lt, byte-shifts}
@@ -41,10 +41,6 @@ number-add (a ∷ p) (b ∷ q) =
     ∙ (omega arith)
     ∙ sym (xor-step (number (a ∷ p)) (number (b ∷ q))
     ∙ ap₂ (λ (x y : ℕ). x * 2 + y) (ap₂ bitXor (number-half a p) (number-half b q)) (ap₂ differ (number-odd a p) (number-odd b q)))
-
--- what the generator adds to the powers below a leading 1
-abbrev lower : Poly
-lower = drop 1 generator
 
 -- the generator below x^32
 pub reflected : number lower ≡ polynomial

@@ -4,9 +4,9 @@ use mathlib.Core.Path.{_≡_}
 use mathlib.Core.List.{List, [], _∷_}
 use Prim.Native.Nat.{ℕ, zero, suc, _-_, _*_, _/_, _%_, _^_}
 use lib.Bits.{bitXor}
-use lib.ListN.{drop, getD}
+use lib.ListN.{getD}
 use Rattle.le.specs.Le.{Bytes}
-use Rattle.checksum.specs.V42.{Poly, generator, bits, digit, number, checkOf}
+use Rattle.checksum.specs.V42.{Poly, lower, bits, digit, number, checkOf}
 
 abbrev pub polynomial : ℕ
 polynomial = 0xEDB88320
@@ -51,6 +51,6 @@ tableRegister s = bitXor (bytewise ones s) ones
 
 -- the generator below x^32 is EDB88320, and for every list of bytes the two registers give V.42's check
 pub record Agreement : Type 0 where
-  pub reflected : number (drop 1 generator) ≡ polynomial
+  pub reflected : number lower ≡ polynomial
   pub shift-register : (s : List ℕ) → Bytes s → shiftRegister s ≡ checkOf s
   pub table : (s : List ℕ) → Bytes s → tableRegister s ≡ checkOf s

@@ -1,5 +1,6 @@
 -- The 32-bit check of ITU-T V.42, 8.1.1.6.2, over polynomials with coefficients in GF(2). A polynomial is the list of its
 -- coefficients, that of the highest power first, which is the order in which bits are sent.
+use mathlib.Core.Path.{_≡_}
 use mathlib.Core.Bool.{Bool, true, false}
 use mathlib.Core.List.{List, [], _∷_, _++_}
 use Prim.Native.Nat.{ℕ, zero, suc, _+_, _-_, _*_, _/_, _%_}
@@ -30,12 +31,38 @@ powers (e ∷ es) = set (powers es) (32 - e) true
 abbrev pub generator : Poly
 generator = powers (32 ∷ 26 ∷ 23 ∷ 22 ∷ 16 ∷ 12 ∷ 11 ∷ 10 ∷ 8 ∷ 7 ∷ 5 ∷ 4 ∷ 2 ∷ 1 ∷ 0 ∷ [])
 
+-- what it has below x^32
+abbrev pub lower : Poly
+lower = drop 1 generator
+
 -- the remainder of a polynomial of k + 32 coefficients by the generator: in long division a leading 1 has the generator taken away from it
 unfoldable pub remainder : ℕ → Poly → Poly
 remainder zero p = p
 remainder (suc k) [] = []
 remainder (suc k) (false ∷ p) = remainder k p
 remainder (suc k) (true ∷ p) = remainder k (drop 1 (add generator (true ∷ p)))
+
+-- the quotient of the same division
+unfoldable pub quotient : ℕ → Poly → Poly
+quotient zero p = []
+quotient (suc k) [] = []
+quotient (suc k) (false ∷ p) = false ∷ quotient k p
+quotient (suc k) (true ∷ p) = true ∷ quotient k (drop 1 (add generator (true ∷ p)))
+
+-- a coefficient times the generator
+abbrev pub multiple : Bool → Poly
+multiple true = generator
+multiple false = replicate 33 false
+
+-- the product of a polynomial and the generator
+unfoldable pub product : Poly → Poly
+product [] = replicate 32 false
+product (a ∷ q) = add (multiple a) (false ∷ product q)
+
+-- the division is one: dividend = quotient × generator + remainder, and the remainder has no power above x^31
+pub record Division : Type 0 where
+  pub sum : (k : ℕ) (p : Poly) → length p ≡ k + 32 → add (product (quotient k p)) (replicate k false ++ remainder k p) ≡ p
+  pub degree : (k : ℕ) (p : Poly) → length p ≡ k + 32 → length (remainder k p) ≡ 32
 
 -- the k low bits of a number, the lowest first
 unfoldable pub digits : ℕ → ℕ → Poly
