@@ -1,4 +1,4 @@
--- The register's move is linear over `bitXor`; so feeding bits is moving their sum with the register, and a table serves for 8 moves.
+-- A shift is linear over `bitXor`, so taking in bits is shifting their sum with the register, and a table serves for 8 shifts.
 use mathlib.Core.Path.{_≡_, refl, sym, ap, ap₂, _∙_}
 use mathlib.Core.Bool.{Bool, true, false}
 use mathlib.Core.List.{List, [], _∷_, _++_}
@@ -24,20 +24,20 @@ times (suc zero) (suc zero) hx hy = sym (xor-self (1 * polynomial))
 times (suc zero) (suc (suc y)) hx hy = absurd (omega arith)
 times (suc (suc x)) y hx hy = absurd (omega arith)
 
--- a move is linear
+-- a shift is linear
 pub shift-xor : (a b : ℕ) → shift (bitXor a b) ≡ bitXor (shift a) (shift b)
 unfolding shift
 shift-xor a b =
     ap₂ bitXor (xor-shr a b 1) (ap (λ (x : ℕ). x * polynomial) (xor-odd a b) ∙ times (a % 2) (b % 2) (bit-lt a) (bit-lt b))
     ∙ xor-swap (a / 2) (b / 2) (a % 2 * polynomial) (b % 2 * polynomial)
 
--- so are k moves
+-- so are k shifts
 pub shifts-xor : (k a b : ℕ) → shifts k (bitXor a b) ≡ bitXor (shifts k a) (shifts k b)
 unfolding shifts
 shifts-xor zero a b = refl
 shifts-xor (suc k) a b = ap (shifts k) (shift-xor a b) ∙ shifts-xor k (shift a) (shift b)
 
--- bits from the k-th on only move down
+-- k shifts only move the bits from the k-th on down
 pub shifts-shifted : (k m : ℕ) → shifts k (m * 2 ^ k) ≡ m
 unfolding shifts shift
 shifts-shifted zero m = omega arith
@@ -45,7 +45,7 @@ shifts-shifted (suc k) m =
     ap (shifts k) (ap₂ (λ (x y : ℕ). bitXor x (y * polynomial)) (shifted-half m k) (shifted-even m k) ∙ xor-zero-r (m * 2 ^ k))
     ∙ shifts-shifted k m
 
--- so k moves are the table's entry for the k low bits, and the others moved down
+-- so k shifts are the table's entry for the k low bits, and the others moved down
 pub shifts-low : (k c : ℕ) → shifts k c ≡ bitXor (shifts k (c % 2 ^ k)) (c / 2 ^ k)
 shifts-low k c =
     ap (shifts k) (sym (split c k) ∙ sym (xor-shifted (c / 2 ^ k) k (c % 2 ^ k) (mod-lt c (pow-pos k))))
@@ -57,7 +57,7 @@ pub digit-lt : (a : Bool) → digit a < 2
 digit-lt true = omega arith
 digit-lt false = omega arith
 
--- feeding bits is moving their sum with the register
+-- taking in bits is shifting their sum with the register
 pub bitwise-shifts : (c : ℕ) (p : Poly) → bitwise c p ≡ shifts (length p) (bitXor c (number p))
 unfolding bitwise shifts number
 bitwise-shifts c [] = sym (xor-zero-r c)
@@ -96,7 +96,7 @@ entry zero i k h = absurd (omega arith)
 entry (suc n) i zero h = ap (shifts 8) (sym (add-zero i))
 entry (suc n) i (suc k) h = entry n (suc i) k (omega arith) ∙ ap (shifts 8) (omega arith)
 
--- a byte's step is 8 moves
+-- a byte's step is 8 shifts
 pub byte-shifts : (c b : ℕ) → b < 256 → byteStep c b ≡ shifts 8 (bitXor c b)
 unfolding byteStep
 byte-shifts c b h =

@@ -1,4 +1,4 @@
--- Both registers give V.42's check: long division of polynomials is moving their numbers.
+-- Both registers give V.42's check: long division of polynomials is shifting their numbers.
 use mathlib.Core.Path.{_≡_, refl, sym, ap, ap₂, _∙_}
 use mathlib.Core.Bool.{Bool, true, false}
 use mathlib.Core.List.{List, [], _∷_, _++_}
@@ -47,7 +47,7 @@ pub reflected : number lower ≡ polynomial
 unfolding number
 reflected = refl
 
--- long division of a polynomial is moving its number
+-- long division of a polynomial is shifting its number
 pub number-remainder : (k : ℕ) (p : Poly) → number (remainder k p) ≡ shifts k (number p)
 unfolding remainder add shifts shift number
 number-remainder zero p = refl
@@ -118,14 +118,14 @@ shift-check s =
     ∙ ap₂ bitXor (number-remainder k a ∙ ap (shifts k) (number-zeros ones32 k ∙ all-ones))
     (number-remainder k b ∙ ap (shifts k) (number-zeros (bits s) 32))))
 
--- a byte's step feeds its 8 bits
+-- a byte's step takes in its 8 bits
 byte-bits : (c b : ℕ) → b < 256 → byteStep c b ≡ bitwise c (digits 8 b)
 byte-bits c b h =
     byte-shifts c b h
     ∙ sym (bitwise-shifts c (digits 8 b)
     ∙ ap₂ (λ (n x : ℕ). shifts n (bitXor c x)) (length-digits 8 b) (number-digits 8 b h))
 
--- the register over the table is the shift register
+-- the table-driven register is the shift register
 pub bytewise-bitwise : (c : ℕ) (s : List ℕ) → Bytes s → bytewise c s ≡ bitwise c (bits s)
 unfolding bytewise bits
 bytewise-bitwise c [] h = (unfold bitwise in refl)
@@ -134,7 +134,7 @@ bytewise-bitwise c (b ∷ bs) h =
     ∙ ap (λ (x : ℕ). bitwise x (bits bs)) (byte-bits c b (h .0))
     ∙ sym (bitwise-append c (digits 8 b) (bits bs))
 
--- the register over the table gives V.42's check
+-- the table-driven register gives V.42's check
 pub table-check : (s : List ℕ) → Bytes s → tableRegister s ≡ checkOf s
 unfolding tableRegister
 table-check s h = ap (λ (x : ℕ). bitXor x ones) (bytewise-bitwise ones s h) ∙ (unfold shiftRegister in shift-check s)

@@ -1,4 +1,4 @@
-// The 32-bit check of ITU-T V.42, as firmware_services::checksum has it: a register fed byte by byte over a table.
+// The 32-bit check of ITU-T V.42, as firmware_services::checksum has it: a register driven by a table, byte by byte.
 mod table;
 
 ghost use mathlib.Core.Path.{_≡_};
@@ -28,12 +28,12 @@ pub fn crc32(bytes: &[u8]) -> u32
     register ^ 0xffffffff
 }
 
-// Long division by the generator divides. It does nothing: its contract is the statement.
+// The remainder of the definition is the remainder by the generator. It does nothing: its contract is the statement.
 pub fn division()
     ensures { λ _. ⌜ Division ⌝ }
 {}
 
-// The shift register, the register over a table and V.42's remainders give the same check. It does nothing: its
+// The shift register, the table-driven register and V.42's remainders give the same check. It does nothing: its
 // contract is the statement.
 pub fn agreement()
     ensures { λ _. ⌜ Agreement ⌝ }

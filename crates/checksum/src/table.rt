@@ -1,4 +1,4 @@
-// What 8 moves of the shift register make of each byte. crc32's proof holds every entry to the definition.
+// Each byte after 8 shifts of the register. crc32's proof holds every entry to the definition.
 pub const TABLE: [u32; 256] = [
     0x00000000,
     0x77073096,

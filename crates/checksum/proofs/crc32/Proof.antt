@@ -1,4 +1,4 @@
--- The loop's invariant: the register, fed with what is left, gives what the start gives with all bytes.
+-- The loop's invariant: from the register on, the bytes left give what all bytes give from the start.
 use mathlib.Core.Path.{_≡_, refl, ap, _∙_}
 use Prim.Native.Nat.{ℕ, _≤_, _-_}
 use native.Mathlib.Numerals.{add-one}
