@@ -1,0 +1,4 @@
+pub mod Quotient
+pub mod Xor
+pub mod Register
+pub mod V42
