@@ -6,8 +6,8 @@ use Prim.Native.Nat.{ℕ, zero, suc, _-_, min}
 use native.Mathlib.Omega.{arith}
 use lib.ListN.{length, take, replicate, length-take, length-map}
 use lib.Dec.{eqb, eqb·suc-zero}
-use Rattle.laws.specs.Lists.{all}
-use Rattle.laws.proofs.Lists.{take-least}
+use Rattle.common.specs.Lists.{all}
+use Rattle.common.proofs.Lists.{take-least}
 use Rattle.names.specs.declared.Name.{Name}
 use Rattle.names.specs.Names.{drawn, nameFrom, nameOk, isBlank}
 

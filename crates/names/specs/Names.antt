@@ -4,7 +4,7 @@ use mathlib.Core.List.{List, [], _∷_, map}
 use Prim.Native.Nat.{ℕ, _-_}
 use lib.Dec.{ltb, leb, eqb}
 use lib.ListN.{length, take, drop, replicate}
-use Rattle.laws.specs.Lists.{all, padded}
+use Rattle.common.specs.Lists.{all, padded}
 use Rattle.names.specs.declared.Name.{Name}
 
 -- "bytes from space to `~` without small letters"

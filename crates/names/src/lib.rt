@@ -1,7 +1,7 @@
 // model.rs's `Name`: upper-case ASCII text of up to 20 bytes, and the test of question 5 for a name in memory.
 ghost use mathlib.Core.Path.{_≡_};
-ghost use Prim.Native.Nat.{min};
 ghost use Rattle.names.specs.Names.{allowed, drawn, nameOk, nameFrom, placed, emptyName, isBlank};
+use common::least;
 
 // Bytes in a workout or step name.
 pub const NAME_BYTES: usize = 20;
@@ -9,12 +9,6 @@ pub const NAME_BYTES: usize = 20;
 pub struct Name {
     pub bytes: [u8; 20],
     pub len: u8,
-}
-
-fn least(a: usize, b: usize) -> usize
-    ensures { λ r. ⌜ r ≡ min a b ⌝ }
-{
-    if a < b { a } else { b }
 }
 
 // The byte as the screen font can draw it: small letters as capitals, anything but space to `~` as a space.

@@ -1,4 +1,4 @@
-use Rattle.laws.proofs.Tests.{and-left}
+use Rattle.common.proofs.Tests.{and-left}
 use borrow.Author.Tests.{leb-true}
 use native.Mathlib.Omega.{arith}
 use Rattle.names.proofs.drawn_byte.Statement.{statement}

@@ -1,5 +1,5 @@
 use Rattle.zones.specs.Zones.{percentOf}
-use Rattle.laws.proofs.Numbers.{product}
+use Rattle.common.proofs.Numbers.{product}
 use native.Mathlib.Omega.{arith}
 use Rattle.zones.proofs.percent.Statement.{statement}
 use Rattle.zones.proofs.percent.Tie as tie

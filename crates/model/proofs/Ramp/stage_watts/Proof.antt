@@ -1,5 +1,5 @@
 use Rattle.model.specs.Target.{stageWatts}
-use Rattle.laws.proofs.Numbers.{product}
+use Rattle.common.proofs.Numbers.{product}
 use native.Mathlib.Omega.{arith}
 use borrow.Author.Needs.{needs}
 use Rattle.model.proofs.Ramp.stage_watts.Statement.{statement}

@@ -1,8 +1,8 @@
 use borrow.Author.Needs.{needs}
 use lib.Dec.{leb}
 use Rattle.names.specs.Names.{nameOk, placed, allowed, isZero}
-use Rattle.laws.proofs.Lists.{all-at-step, all-at-end, all-split}
-use Rattle.laws.specs.Lists.{allAt}
+use Rattle.common.proofs.Lists.{all-at-step, all-at-end, all-split}
+use Rattle.common.specs.Lists.{allAt}
 use lib.ListN.{length, drop}
 use native.Mathlib.Omega.{arith}
 use Prim.Native.Nat.{_≤_, _-_}

@@ -5,7 +5,7 @@ use denote.Ref.{now}
 use mathlib.Core.List.{List}
 use lib.Seq.{length-take-le}
 use Rattle.names.specs.Names.{drawn, nameFrom}
-use Rattle.laws.proofs.Lists.{fill}
+use Rattle.common.proofs.Lists.{fill}
 use lib.Seq.{take-suc, take-all}
 use lib.ListN.{length, take, replicate, length-take, length-map, getD}
 use native.Mathlib.Numerals.{add-one}
@@ -18,7 +18,6 @@ use Rattle.names.proofs.Name.from_bytes.Tie as tie
 use Rattle.names.proofs.Name.from_bytes.Reads as reads
 use Rattle.names.proofs.Name.from_bytes.Lts as lts
 use Rattle.names.proofs.drawn_byte.Reads as drawn-byte-reads
-use Rattle.names.proofs.least.Reads as least-reads
 
 abbrev Inv-loop : tie.InvT-loop
 Inv-loop text n bytes₀ i₀ bytes i = (i ≤ n) × (bytes ≡ map drawn (take i text) ++ replicate (20 - i) 0)

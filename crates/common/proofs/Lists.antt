@@ -10,7 +10,7 @@ use lib.Dec.{ltb}
 use lib.ListN.{length, getD, take, drop, set, replicate, drop-of-length-le}
 use lib.Seq.{drop-cons, set-at, append-snoc, take-nil}
 use borrow.Author.Tests.{lt-ltb, le-ltb}
-use Rattle.laws.specs.Lists.{all, allAt}
+use Rattle.common.specs.Lists.{all, allAt}
 
 module _ {A : Type 0} where
   -- one element more has been tested
