@@ -1,16 +1,17 @@
--- Laws of lists: a test asked of each element in turn, and an array that is filled place by place.
-use mathlib.Core.Path.{_≡_, refl, sym, ap, _∙_}
+-- Laws of lists: a test asked of each element in turn, a sum, and an array that is filled place by place.
+use mathlib.Core.Path.{_≡_, refl, sym, ap, ap₂, _∙_}
 use mathlib.Core.Bool.{Bool, true, false, cond, _&&_, and-assoc, and-true}
-use mathlib.Core.List.{List, [], _∷_, _++_, append-assoc}
+use mathlib.Core.List.{List, [], _∷_, _++_, map, append-assoc}
 use Prim.Native.Nat.{ℕ, zero, suc, _+_, _-_, _≤_, _<_, min}
 use native.Mathlib.Nat.{zero-add}
 use native.Mathlib.Numerals.{add-one}
 use native.Mathlib.Omega.{arith}
 use lib.Dec.{ltb}
-use lib.ListN.{length, getD, take, drop, set, replicate, drop-of-length-le}
-use lib.Seq.{drop-cons, set-at, append-snoc, take-nil}
+use lib.ListN.{length, getD, take, drop, set, replicate, drop-of-length-le, length-take}
+use lib.Seq.{drop-cons, drop-append-add, set-at, append-snoc, take-nil, getD-take}
 use borrow.Author.Tests.{lt-ltb, le-ltb}
-use Rattle.common.specs.Lists.{all, allAt}
+use Rattle.common.specs.Lists.{all, allAt, sum}
+use Rattle.common.proofs.Tests.{and-left, and-right, and-both}
 
 module _ {A : Type 0} where
   -- one element more has been tested
@@ -47,6 +48,19 @@ module _ {A : Type 0} where
       → allAt (λ j x. cond (ltb j n) (p x) (q x)) 0 xs ≡ (all p (take n xs) && all q (drop n xs))
   all-split p q n xs = ap (λ (m : ℕ). allAt (λ j x. cond (ltb j m) (p x) (q x)) 0 xs) (sym (zero-add n)) ∙ split-from p q n 0 xs
 
+  -- a test that every element passes holds of all
+  pub all-any : (p : A → Bool) → ((x : A) → p x ≡ true) → (xs : List A) → all p xs ≡ true
+  unfolding all
+  all-any p f [] = refl
+  all-any p f (x ∷ xs) = and-both (f x) (all-any p f xs)
+
+  -- a test for the elements below place n alone, and one for those from there on alone
+  pub all-used : (p : A → Bool) (n : ℕ) (xs : List A) → allAt (λ j x. cond (ltb j n) (p x) true) 0 xs ≡ all p (take n xs)
+  all-used p n xs = all-split p (λ _. true) n xs ∙ ap (λ (t : Bool). all p (take n xs) && t) (all-any (λ _. true) (λ x. refl) (drop n xs)) ∙ and-true (all p (take n xs))
+
+  pub all-unused : (q : A → Bool) (n : ℕ) (xs : List A) → allAt (λ j x. cond (ltb j n) true (q x)) 0 xs ≡ all q (drop n xs)
+  all-unused q n xs = all-split (λ _. true) q n xs ∙ ap (λ (t : Bool). t && all q (drop n xs)) (all-any (λ _. true) (λ x. refl) (take n xs))
+
   -- what is taken stops at the list's end
   pub take-least : (k : ℕ) (xs : List A) → take (min (length xs) k) xs ≡ take k xs
   take-least k [] = take-nil (min 0 k) ∙ sym (take-nil k)
@@ -59,6 +73,21 @@ module _ {A : Type 0} where
       at-suc : (n k : ℕ) → min (suc n) (suc k) ≡ suc (min n k)
       at-suc n k = omega arith
 
+  -- what is left of the first n elements from place i on: one element and the rest, or nothing
+  pub used-cons : (xs : List A) (n i : ℕ) (d : A) → i < n → i < length xs → drop i (take n xs) ≡ getD xs i d ∷ drop (i + 1) (take n xs)
+  used-cons xs n i d h l =
+      drop-cons (take n xs) i d (omega (arith, length-take n xs))
+      ∙ ap₂ (λ (x : A) (k : ℕ). x ∷ drop k (take n xs)) (getD-take n xs i d h) (sym (add-one i))
+
+  pub used-end : (xs : List A) (n i : ℕ) → min n (length xs) ≤ i → drop i (take n xs) ≡ []
+  used-end xs n i h = drop-of-length-le (take n xs) {i = i} (omega (arith, length-take n xs))
+
+  -- within the list the default is never read
+  pub getD-any : (xs : List A) (i : ℕ) (d e : A) → i < length xs → getD xs i d ≡ getD xs i e
+  getD-any [] i d e h = absurd (omega arith)
+  getD-any (x ∷ xs) zero d e h = refl
+  getD-any (x ∷ xs) (suc i) d e h = getD-any xs i d e (omega arith)
+
   -- the next place of an array that is filled from the front
   pub fill : (n i : ℕ) (xs : List A) (a blank : A) → length xs ≡ i → i < n
       → set (xs ++ replicate (n - i) blank) i a ≡ (xs ++ (a ∷ [])) ++ replicate (n - (i + 1)) blank
@@ -69,3 +98,41 @@ module _ {A : Type 0} where
     where
       left : (n i : ℕ) → i < n → n - i ≡ suc (n - (i + 1))
       left n i h = omega arith
+
+  pub all-append : (p : A → Bool) (xs ys : List A) → all p (xs ++ ys) ≡ (all p xs && all p ys)
+  unfolding all
+  all-append p [] ys = refl
+  all-append p (x ∷ xs) ys = ap (λ (t : Bool). p x && t) (all-append p xs ys) ∙ sym (and-assoc (p x) (all p xs) (all p ys))
+
+  -- where two tests hold of all, so does what follows from both
+  pub all-both : (p q r : A → Bool) → ((x : A) → p x ≡ true → q x ≡ true → r x ≡ true) → (xs : List A) → all p xs ≡ true → all q xs ≡ true
+      → all r xs ≡ true
+  unfolding all
+  all-both p q r f [] h k = refl
+  all-both p q r f (x ∷ xs) h k =
+      and-both (f x (and-left (p x) (all p xs) h) (and-left (q x) (all q xs) k))
+      (all-both p q r f xs (and-right (p x) (all p xs) h) (and-right (q x) (all q xs) k))
+
+  -- where a test holds of all, so does what follows from it
+  pub all-mono : (p r : A → Bool) → ((x : A) → p x ≡ true → r x ≡ true) → (xs : List A) → all p xs ≡ true → all r xs ≡ true
+  all-mono p r f xs h = all-both p p r (λ x a b. f x a) xs h h
+
+  -- what holds of all holds of the element at a place
+  pub all-get : (p : A → Bool) (xs : List A) (i : ℕ) (d : A) → i < length xs → all p xs ≡ true → p (getD xs i d) ≡ true
+  unfolding all
+  all-get p [] i d h e = absurd (omega arith)
+  all-get p (x ∷ xs) zero d h e = and-left (p x) (all p xs) e
+  all-get p (x ∷ xs) (suc i) d h e = all-get p xs i d (omega arith) (and-right (p x) (all p xs) e)
+
+  -- one number more has been added
+  pub sum-step : (f : A → ℕ) (xs : List A) (i : ℕ) (d : A) → i < length xs
+      → f (getD xs i d) + sum (map f (drop (i + 1) xs)) ≡ sum (map f (drop i xs))
+  unfolding sum
+  sum-step f xs i d h = rw (add-one, drop-cons xs i d)
+
+  -- the blanks of a filled array that has room for one more
+  pub padded-rest : (n : ℕ) (xs : List A) (blank : A) → length xs < n
+      → drop (length xs + 1) (xs ++ replicate (n - length xs) blank) ≡ replicate (n - (length xs + 1)) blank
+  padded-rest n xs blank h =
+      let left : n - length xs ≡ suc (n - (length xs + 1)) = omega arith in
+      drop-append-add xs (replicate (n - length xs) blank) 1 ∙ ap (λ (k : ℕ). drop 1 (replicate k blank)) left

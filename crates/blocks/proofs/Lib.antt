@@ -1,0 +1,3 @@
+pub mod Question7
+pub mod Sort
+pub mod Laws

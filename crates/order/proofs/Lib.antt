@@ -1,0 +1,4 @@
+pub mod Laws
+pub mod Planned
+pub mod Count
+pub mod Within
