@@ -7,8 +7,8 @@ use native.Mathlib.Nat.{zero-add}
 use native.Mathlib.Numerals.{add-one}
 use native.Mathlib.Omega.{arith}
 use lib.Dec.{ltb}
-use lib.ListN.{length, getD, take, drop, set, replicate, drop-of-length-le, length-take}
-use lib.Seq.{drop-cons, drop-append-add, set-at, append-snoc, take-nil, getD-take}
+use lib.ListN.{length, getD, take, drop, set, replicate, drop-of-length-le, length-take, length-drop}
+use lib.Seq.{drop-cons, drop-append-add, set-at, append-snoc, take-nil, getD-take, getD-drop, take-suc, length-take-le}
 use borrow.Author.Tests.{lt-ltb, le-ltb}
 use Rattle.common.specs.Lists.{all, allAt, sum}
 use Rattle.common.proofs.Tests.{and-left, and-right, and-both}
@@ -88,6 +88,22 @@ module _ {A : Type 0} where
   getD-any (x ∷ xs) zero d e h = refl
   getD-any (x ∷ xs) (suc i) d e h = getD-any xs i d e (omega arith)
 
+  -- one element more of a list has been tested, or all have
+  pub all-step : (p : A → Bool) (ok : Bool) (xs : List A) (i : ℕ) (d : A) → i < length xs
+      → ((ok && p (getD xs i d)) && all p (drop (i + 1) xs)) ≡ (ok && all p (drop i xs))
+  unfolding all
+  all-step p ok xs i d h =
+      and-assoc ok (p (getD xs i d)) (all p (drop (i + 1) xs))
+      ∙ ap (λ (l : List A). ok && all p l) (ap (λ (k : ℕ). getD xs i d ∷ drop k xs) (add-one i) ∙ sym (drop-cons xs i d h))
+
+  pub all-end : (p : A → Bool) (ok : Bool) (xs : List A) (i : ℕ) → length xs ≤ i → ok ≡ (ok && all p (drop i xs))
+  unfolding all
+  all-end p ok xs i h = rw (drop-of-length-le xs h) (sym (and-true ok))
+
+  -- an element of a part of a list
+  pub getD-part : (xs : List A) (from n i : ℕ) (d : A) → i < n → getD (take n (drop from xs)) i d ≡ getD xs (from + i) d
+  getD-part xs from n i d h = getD-take n (drop from xs) i d h ∙ getD-drop from xs i d
+
   -- the next place of an array that is filled from the front
   pub fill : (n i : ℕ) (xs : List A) (a blank : A) → length xs ≡ i → i < n
       → set (xs ++ replicate (n - i) blank) i a ≡ (xs ++ (a ∷ [])) ++ replicate (n - (i + 1)) blank
@@ -98,6 +114,17 @@ module _ {A : Type 0} where
     where
       left : (n i : ℕ) → i < n → n - i ≡ suc (n - (i + 1))
       left n i h = omega arith
+
+  -- and of one that is filled with a part of a list
+  pub fill-part : (n i from : ℕ) (s : List A) (d blank : A) → i < n → from + i < length s
+      → set (take i (drop from s) ++ replicate (n - i) blank) i (getD s (from + i) d) ≡ take (i + 1) (drop from s) ++ replicate (n - (i + 1)) blank
+  fill-part n i from s d blank h l =
+      let within : i < length (drop from s) = omega (arith, length-drop from s) in
+      fill n i (take i (drop from s)) (getD s (from + i) d) blank (length-take-le i (drop from s) (omega arith)) h
+      ∙ ap (λ (x : List A). x ++ replicate (n - (i + 1)) blank)
+      (ap (λ (a : A). take i (drop from s) ++ (a ∷ [])) (sym (getD-drop from s i d))
+      ∙ sym (take-suc (drop from s) i d within)
+      ∙ ap (λ (k : ℕ). take k (drop from s)) (sym (add-one i)))
 
   pub all-append : (p : A → Bool) (xs ys : List A) → all p (xs ++ ys) ≡ (all p xs && all p ys)
   unfolding all

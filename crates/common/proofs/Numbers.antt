@@ -1,4 +1,5 @@
 -- Bounds of products.
+use mathlib.Core.Path.{_≡_}
 use Prim.Native.Nat.{ℕ, zero, suc, _*_, _≤_, _<_}
 use native.Mathlib.Nat.{mul-le-mul, zero-mul}
 use native.Mathlib.Omega.{arith}
@@ -11,3 +12,7 @@ product a b m n p q = mul-le-mul p q
 pub factor-positive : (a b k : ℕ) → k < a * b → 0 < a
 factor-positive zero b k h = absurd (omega (arith, zero-mul b))
 factor-positive (suc a) b k h = omega arith
+
+-- a number that is at least n and is not n is above it
+pub past : (n k : ℕ) → n ≤ k → (k ≡ n → ⊥) → suc n ≤ k
+past n k h f = omega arith

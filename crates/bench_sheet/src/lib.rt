@@ -1,0 +1,6 @@
+// Document 01, 'Bench sheet': the lines marked P, proved together as one fact. Lines join as the module they speak of is there.
+ghost use Rattle.bench_sheet.specs.BenchSheet.{BenchSheet};
+
+pub fn bench_sheet()
+    ensures { λ _. ⌜ BenchSheet ⌝ }
+{}
