@@ -2,13 +2,13 @@
 use mathlib.Core.Path.{_≡_, refl, sym, ap, ap₂, _∙_}
 use mathlib.Core.Bool.{Bool, true, false, cond, _&&_, and-false}
 use mathlib.Core.Logic.{⊎-elim}
-use mathlib.Core.List.{List, [], _∷_, _++_, map, flatMap}
+use mathlib.Core.List.{List, [], _∷_, flatMap}
 use Prim.Native.Nat.{ℕ, zero, suc, _+_, _-_, _*_, _≤_, _<_}
 use native.Mathlib.Nat.{mul-suc, add-zero, zero-add, suc-add}
 use native.Mathlib.Omega.{arith}
 use lib.Dec.{eqb, ltb, leb}
 use lib.ListN.{length, length-append}
-use borrow.Author.Tests.{lt-ltb, le-ltb, le-leb, lt-leb, eq-eqb, ne-eqb, leb-true, leb-false, ltb-true, eqb-true}
+use borrow.Author.Tests.{lt-ltb, le-ltb, le-leb, lt-leb, eq-eqb, ne-eqb}
 use Rattle.common.specs.Lists.{all, sum, range}
 use Rattle.common.proofs.Tests.{and-left, and-right}
 use Rattle.model.specs.declared.Block.{Block}
@@ -16,7 +16,6 @@ use Rattle.blocks.specs.Blocks.{end, apart, blocksSound, extra, repeats}
 use Rattle.blocks.proofs.Laws.{Ok, apart-cases, sound-head, sound-tail, head-apart, repeats-cons}
 use Rattle.order.specs.declared.BlockOption.{BlockOption}
 use Rattle.order.specs.declared.BlockOption.the-variants as blockOption
-use Rattle.order.specs.declared.Place.{Place}
 use Rattle.order.specs.Order.{holds, blockAt, piece, pieceLen, order}
 use Rattle.order.proofs.Laws.{length-piece}
 

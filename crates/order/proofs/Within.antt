@@ -1,7 +1,7 @@
 -- In the playing order of sound blocks every place is one of the steps, so a step is played at each position below the order's length.
 use mathlib.Core.Path.{_≡_, refl, sym, ap, _∙_}
-use mathlib.Core.Bool.{Bool, true, false, cond, _&&_}
-use mathlib.Core.List.{List, [], _∷_, _++_, map, flatMap}
+use mathlib.Core.Bool.{Bool, true, false, cond}
+use mathlib.Core.List.{List, [], _∷_, map, flatMap}
 use Prim.Native.Nat.{ℕ, zero, suc, _+_, _≤_, _<_}
 use native.Mathlib.Omega.{arith}
 use lib.Dec.{eqb, ltb, leb·suc-suc}
@@ -16,11 +16,8 @@ use Rattle.model.specs.declared.Workout.{Workout}
 use Rattle.model.specs.Workout.{noStep, stepsOf, blocksOf}
 use Rattle.blocks.specs.Blocks.{end, blockOk, blocksSound}
 use Rattle.blocks.proofs.Laws.{block-ok, sound-ok}
-use Rattle.order.specs.declared.BlockOption.{BlockOption}
 use Rattle.order.specs.declared.BlockOption.the-variants as blockOption
 use Rattle.order.specs.declared.Place.{Place}
-use Rattle.order.specs.declared.PlaceOption.{PlaceOption}
-use Rattle.order.specs.declared.PlaceOption.the-variants as placeOption
 use Rattle.order.specs.Order.{place, run, runs, holds, blockAt, piece, order, orderOf, nth, nothing, stepAt, playedBy, playedOf, playedLen, PlayingOrder}
 use Rattle.order.proofs.Count.{order-length}
 use Rattle.order.proofs.Planned.{found}

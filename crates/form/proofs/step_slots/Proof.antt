@@ -1,17 +1,15 @@
-use Rattle.form.specs.Form.{stepSlot, stepSlots, noteOk, isNoStep}
+-- `step_slots`: what has been found, and the places from i on, give the answer of all places.
+use mathlib.Core.Bool.{_&&_}
+use mathlib.Core.Path.{_≡_, _∙_, refl}
+use Prim.Native.Nat.{_≤_, _-_}
+use native.Mathlib.Omega.{arith}
+use lib.ListN.{drop}
+use borrow.Author.Needs.{needs}
 use Rattle.common.proofs.Lists.{all-at-step, all-at-end, all-split}
 use Rattle.common.specs.Lists.{allAt}
-use lib.ListN.{length, drop}
-use borrow.Author.Needs.{needs}
-use native.Mathlib.Omega.{arith}
-use Prim.Native.Nat.{_≤_, _-_}
-use mathlib.Core.Bool.{_&&_, true}
-use mathlib.Core.Path.{_≡_, _∙_, refl, ap}
+use Rattle.form.specs.Form.{stepSlot, stepSlots, noteOk, isNoStep}
 use Rattle.form.proofs.step_slots.Statement.{statement}
 use Rattle.form.proofs.step_slots.Tie as tie
-use Rattle.form.proofs.step_slots.Reads as reads
-use Rattle.form.proofs.step_slots.Lts as lts
-use Rattle.form.proofs.step_slot.Reads as step-slot-reads
 
 abbrev Inv-loop : tie.InvT-loop
 Inv-loop count steps ok₀ i₀ ok i = (i ≤ 12) × ((ok && allAt (stepSlot count) i (drop i steps)) ≡ allAt (stepSlot count) 0 steps)
@@ -19,37 +17,29 @@ Inv-loop count steps ok₀ i₀ ok i = (i ≤ 12) × ((ok && allAt (stepSlot cou
 abbrev μ-loop : tie.MeasureT-loop
 μ-loop count steps ok₀ i₀ ok i = 12 - i
 
--- src/lib.rt:117:5
 loop-holds : tie.Need-loop-holds Inv-loop μ-loop
 loop-holds c = (omega arith, refl)
 
--- src/lib.rt:118:39
 mul-step-slot : tie.Need-mul-step-slot Inv-loop μ-loop
 mul-step-slot c = search needs
 
--- src/lib.rt:118:39
 array-copy-out-step-slot : tie.Need-array-copy-out-step-slot Inv-loop μ-loop
 array-copy-out-step-slot c = search needs
 
--- src/lib.rt:118:19
 step-slot-requires : tie.Need-step-slot-requires Inv-loop μ-loop
 step-slot-requires c κs = tt
 
--- src/lib.rt:119:9
 add-i : tie.Need-add-i Inv-loop μ-loop
 add-i c = omega arith
 
--- src/lib.rt:117:5
 loop-less : tie.Need-loop-less Inv-loop μ-loop
 loop-less c = omega arith
 
--- src/lib.rt:117:5
 loop-again : tie.Need-loop-again Inv-loop μ-loop
 loop-again c = let l = c .before .before .before .loop in
     let a = c .before .before .before .before .args in
     (omega arith, rw (c .step-slot .ensures) (all-at-step (stepSlot (a .count)) (l .ok) (a .t1) (l .i) _ (omega arith) ∙ l .inv .1))
 
--- src/lib.rt:112:1
 returns : tie.Need-returns Inv-loop μ-loop
 unfolding stepSlots
 returns c = let l = c .before .loop in

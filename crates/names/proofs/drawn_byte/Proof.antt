@@ -1,24 +1,19 @@
-use Rattle.common.proofs.Tests.{and-left}
-use borrow.Author.Tests.{leb-true}
+-- `drawn_byte`: one case for each test; a small letter is at least 97, so 32 can be taken from it.
 use native.Mathlib.Omega.{arith}
+use borrow.Author.Tests.{leb-true}
+use Rattle.common.proofs.Tests.{and-left}
 use Rattle.names.proofs.drawn_byte.Statement.{statement}
 use Rattle.names.proofs.drawn_byte.Tie as tie
-use Rattle.names.proofs.drawn_byte.Reads as reads
-use Rattle.names.proofs.drawn_byte.Lts as lts
 
--- src/lib.rt:18:16
 sub-result : tie.Need-sub-result
 sub-result c = omega (arith, leb-true 97 (c .before .args .byte) (and-left _ _ (c .if1 .taken)))
 
--- src/lib.rt:18:9
 returns : tie.Need-returns
 returns c = simp (c .if1 .taken)
 
--- src/lib.rt:21:9
 returns-2 : tie.Need-returns-2
 returns-2 c = simp (c .before .if1 .left, c .if2 .taken)
 
--- src/lib.rt:14:1
 returns-3 : tie.Need-returns-3
 returns-3 c = simp (c .before .if1 .left, c .if2 .left)
 

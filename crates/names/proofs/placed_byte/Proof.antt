@@ -1,20 +1,15 @@
+-- `placed_byte`: a byte of the text is asked whether it is allowed, one past it whether it is 0.
 use borrow.Author.Tests.{lt-ltb, le-ltb}
 use borrow.Author.Needs.{needs}
 use Rattle.names.proofs.placed_byte.Statement.{statement}
 use Rattle.names.proofs.placed_byte.Tie as tie
-use Rattle.names.proofs.placed_byte.Reads as reads
-use Rattle.names.proofs.placed_byte.Lts as lts
-use Rattle.names.proofs.allowed_byte.Reads as allowed-byte-reads
 
--- src/lib.rt:38:9
 allowed-byte-requires : tie.Need-allowed-byte-requires
 allowed-byte-requires c κs = search needs
 
--- src/lib.rt:34:1
 returns : tie.Need-returns
 returns c = simp (lt-ltb _ _ (c .before .if1 .taken), c .allowed-byte .ensures)
 
--- src/lib.rt:34:1
 returns-2 : tie.Need-returns-2
 returns-2 c = simp (le-ltb _ _ (c .if1 .left))
 

@@ -1,17 +1,15 @@
-use Rattle.order.specs.Order.{timedAt, timedStep}
-use Rattle.common.proofs.Lists.{all-at-step, all-at-end, all-used}
-use Rattle.common.specs.Lists.{allAt}
-use lib.ListN.{drop}
-use borrow.Author.Needs.{needs}
-use native.Mathlib.Omega.{arith}
-use Prim.Native.Nat.{_≤_, _-_}
+-- `all_timed`: what has been found, and the places from i on, give the answer of all steps in use.
 use mathlib.Core.Bool.{_&&_}
 use mathlib.Core.Path.{_≡_, _∙_, refl}
+use Prim.Native.Nat.{_≤_, _-_}
+use native.Mathlib.Omega.{arith}
+use lib.ListN.{drop}
+use borrow.Author.Needs.{needs}
+use Rattle.common.proofs.Lists.{all-at-step, all-at-end, all-used}
+use Rattle.common.specs.Lists.{allAt}
+use Rattle.order.specs.Order.{timedAt, timedStep}
 use Rattle.order.proofs.all_timed.Statement.{statement}
 use Rattle.order.proofs.all_timed.Tie as tie
-use Rattle.order.proofs.all_timed.Reads as reads
-use Rattle.order.proofs.all_timed.Lts as lts
-use Rattle.order.proofs.timed_at.Reads as timed-at-reads
 
 abbrev Inv-loop : tie.InvT-loop
 Inv-loop count steps ok₀ i₀ ok i = (i ≤ 12) × ((ok && allAt (timedAt count) i (drop i steps)) ≡ allAt (timedAt count) 0 steps)
@@ -19,37 +17,29 @@ Inv-loop count steps ok₀ i₀ ok i = (i ≤ 12) × ((ok && allAt (timedAt coun
 abbrev μ-loop : tie.MeasureT-loop
 μ-loop count steps ok₀ i₀ ok i = 12 - i
 
--- src/lib.rt:252:5
 loop-holds : tie.Need-loop-holds Inv-loop μ-loop
 loop-holds c = (omega arith, refl)
 
--- src/lib.rt:253:38
 mul-timed-at : tie.Need-mul-timed-at Inv-loop μ-loop
 mul-timed-at c = search needs
 
--- src/lib.rt:253:38
 array-copy-out-timed-at : tie.Need-array-copy-out-timed-at Inv-loop μ-loop
 array-copy-out-timed-at c = search needs
 
--- src/lib.rt:253:19
 timed-at-requires : tie.Need-timed-at-requires Inv-loop μ-loop
 timed-at-requires c κs = tt
 
--- src/lib.rt:254:9
 add-i : tie.Need-add-i Inv-loop μ-loop
 add-i c = omega arith
 
--- src/lib.rt:252:5
 loop-less : tie.Need-loop-less Inv-loop μ-loop
 loop-less c = omega arith
 
--- src/lib.rt:252:5
 loop-again : tie.Need-loop-again Inv-loop μ-loop
 loop-again c = let l = c .before .before .before .loop in
     let a = c .before .before .before .before .args in
     (omega arith, rw (c .timed-at .ensures) (all-at-step (timedAt (a .count)) (l .ok) (a .t1) (l .i) _ (omega arith) ∙ l .inv .1))
 
--- src/lib.rt:247:1
 returns : tie.Need-returns Inv-loop μ-loop
 returns c = let l = c .before .loop in
     let a = c .before .before .args in

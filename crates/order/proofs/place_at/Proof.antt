@@ -1,22 +1,16 @@
+-- `place_at`: `before` in the order from step i on is `position` in the whole order.
 use mathlib.Core.List.{List}
-use Rattle.order.proofs.Laws.{from-start}
-use Prim.Native.Nat.{_+_}
-use Rattle.order.proofs.Laws.{from, look-here, look-past, look-end}
+use mathlib.Core.Path.{_≡_, _∙_, sym, ap}
+use Prim.Native.Nat.{_+_, ℕ, _≤_, _-_}
+use native.Mathlib.Omega.{arith}
+use lib.ListN.{take}
 use Rattle.order.specs.Order.{blockAt, pieceLen, placeIn, order, nth}
 use Rattle.order.specs.declared.PlaceOption.the-variants as placeOption
 use Rattle.order.specs.declared.Place.{Place}
 use Rattle.order.specs.declared.BlockOption.{BlockOption}
-use lib.ListN.{take}
-use native.Mathlib.Omega.{arith}
-use Prim.Native.Nat.{ℕ, _≤_, _-_}
-use mathlib.Core.Path.{_≡_, _∙_, sym, refl, ap}
+use Rattle.order.proofs.Laws.{from-start, from, look-here, look-past, look-end}
 use Rattle.order.proofs.place_at.Statement.{statement}
 use Rattle.order.proofs.place_at.Tie as tie
-use Rattle.order.proofs.place_at.Reads as reads
-use Rattle.order.proofs.place_at.Lts as lts
-use Rattle.order.proofs.block_at.Reads as block-at-reads
-use Rattle.order.proofs.piece_len.Reads as piece-len-reads
-use Rattle.order.proofs.place_in.Reads as place-in-reads
 
 abbrev Inv-loop : tie.InvT-loop
 Inv-loop blocks count steps position before₀ i₀ before i = (i ≤ steps) × (nth (from (take count blocks) steps i) before ≡ nth (order steps (take count blocks)) position)
@@ -24,23 +18,18 @@ Inv-loop blocks count steps position before₀ i₀ before i = (i ≤ steps) × 
 abbrev μ-loop : tie.MeasureT-loop
 μ-loop blocks count steps position before₀ i₀ before i = steps - i
 
--- src/lib.rt:124:5
 loop-holds : tie.Need-loop-holds Inv-loop μ-loop
 loop-holds c = let a = c .args in (omega arith, ap (λ (xs : List Place). nth xs (a .position)) (from-start (take (a .count) (a .blocks)) (a .steps)))
 
--- src/lib.rt:125:13
 block-at-requires : tie.Need-block-at-requires Inv-loop μ-loop
 block-at-requires c κs = tt
 
--- src/lib.rt:126:13
 piece-len-requires : tie.Need-piece-len-requires Inv-loop μ-loop
 piece-len-requires c κs = tt
 
--- src/lib.rt:128:38
 place-in-requires : tie.Need-place-in-requires Inv-loop μ-loop
 place-in-requires c κs = rw (← c .before .piece-len .ensures) (c .if1 .taken)
 
--- src/lib.rt:128:13
 returns : tie.Need-returns Inv-loop μ-loop
 returns c = let a = c .before .before .before .before .before .before .args in
     let l = c .before .before .before .before .before .loop in
@@ -49,15 +38,12 @@ returns c = let a = c .before .before .before .before .before .before .args in
     ap (λ (p : Place). placeOption.Some p) (c .place-in .ensures ∙ ap (λ (f : BlockOption). placeIn f (l .i) (l .before)) (c .before .before .before .block-at .ensures))
     ∙ sym (look-here bs (a .steps) (l .i) (l .before) (omega arith) (omega arith)) ∙ l .inv .1
 
--- src/lib.rt:131:9
 add-i : tie.Need-add-i Inv-loop μ-loop
 add-i c = omega arith
 
--- src/lib.rt:124:5
 loop-less : tie.Need-loop-less Inv-loop μ-loop
 loop-less c = omega arith
 
--- src/lib.rt:124:5
 loop-again : tie.Need-loop-again Inv-loop μ-loop
 loop-again c = let a = c .before .before .before .before .before .args in
     let l = c .before .before .before .before .loop in
@@ -65,7 +51,6 @@ loop-again c = let a = c .before .before .before .before .before .args in
     let size : c .before .piece-len .result ≡ pieceLen (blockAt bs (l .i)) (l .i) = c .before .piece-len .ensures ∙ ap (λ (f : BlockOption). pieceLen f (l .i)) (c .before .before .block-at .ensures) in
     (omega arith, ap (λ (n : ℕ). nth (from bs (a .steps) (l .i + 1)) (l .before - n)) size ∙ look-past bs (a .steps) (l .i) (l .before) (omega arith) (omega arith) ∙ l .inv .1)
 
--- src/lib.rt:119:1
 returns-2 : tie.Need-returns-2 Inv-loop μ-loop
 returns-2 c = let a = c .before .before .args in
     let l = c .before .loop in

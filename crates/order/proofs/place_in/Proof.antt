@@ -1,51 +1,40 @@
-use Rattle.order.proofs.Laws.{in-runs}
+-- `place_in`: the block has a step, so `len` can divide, and the run is one of its runs, so it fits a byte.
 use native.Mathlib.Nat.{mod-lt}
 use native.Mathlib.Omega.{arith}
 use borrow.Author.Needs.{needs}
+use Rattle.order.proofs.Laws.{in-runs}
 use Rattle.order.proofs.place_in.Statement.{statement}
 use Rattle.order.proofs.place_in.Tie as tie
-use Rattle.order.proofs.place_in.Reads as reads
-use Rattle.order.proofs.place_in.Lts as lts
 
--- src/lib.rt:101:30
 enum-told : tie.Need-enum-told
 enum-told c = search needs
 
--- src/lib.rt:106:27
 enum-known-found : tie.Need-enum-known-found
 enum-known-found c = search needs
 
--- src/lib.rt:107:23
 cast-len : tie.Need-cast-len
 cast-len c = search needs
 
--- src/lib.rt:108:23
 div-run : tie.Need-div-run
 div-run c = in-runs (c .before .before .found .given .0 .0) (c .before .before .before .before .args .index) (c .before .before .before .before .args .before) (rw (c .before .before .found .given .1) at (c .before .before .before .before .pre)) .0
 
--- src/lib.rt:110:25
 cast-t8 : tie.Need-cast-t8
 cast-t8 c = search needs
 
--- src/lib.rt:110:49
 rem-t9 : tie.Need-rem-t9
 rem-t9 c = in-runs (c .before .before .before .found .given .0 .0) (c .before .before .before .before .before .args .index) (c .before .before .before .before .before .args .before) (rw (c .before .before .before .found .given .1) at (c .before .before .before .before .before .pre)) .0
 
--- src/lib.rt:110:24
 add-t10 : tie.Need-add-t10
 add-t10 c = let b = c .before .before .before .found .given .0 .0 in
     omega (arith, mod-lt (c .before .before .before .before .before .args .before) (in-runs b (c .before .before .before .before .before .args .index) (c .before .before .before .before .before .args .before) (rw (c .before .before .before .found .given .1) at (c .before .before .before .before .before .pre)) .0))
 
--- src/lib.rt:111:29
 cast-t11 : tie.Need-cast-t11
 cast-t11 c = let b = c .before .before .before .found .given .0 .0 in
     omega (arith, in-runs b (c .before .before .before .before .before .args .index) (c .before .before .before .before .before .args .before) (rw (c .before .before .before .found .given .1) at (c .before .before .before .before .before .pre)) .1)
 
--- src/lib.rt:96:1
 returns : tie.Need-returns
 returns c = simp (c .enum-told .given .1)
 
--- src/lib.rt:96:1
 returns-2 : tie.Need-returns-2
 returns-2 c = simp (c .before .before .before .found .given .1)
 

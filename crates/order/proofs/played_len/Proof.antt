@@ -1,32 +1,24 @@
-use Rattle.order.specs.Order.{playedLen}
-use lib.ListN.{length, length-take, length-map}
-use native.Mathlib.Omega.{arith}
+-- `played_len`: the steps in use are as many as the count says, and at most 12.
 use mathlib.Core.Path.{_≡_, _∙_, sym}
+use native.Mathlib.Omega.{arith}
+use lib.ListN.{length, length-take, length-map}
 use borrow.Author.Needs.{needs}
+use Rattle.order.specs.Order.{playedLen}
 use Rattle.order.proofs.played_len.Statement.{statement}
 use Rattle.order.proofs.played_len.Tie as tie
-use Rattle.order.proofs.played_len.Reads as reads
-use Rattle.order.proofs.played_len.Lts as lts
-use Rattle.blocks.proofs.repeats_of.Reads as repeats-of-reads
-use Rattle.common.proofs.least.Reads as least-reads
 
--- src/lib.rt:62:11
 cast-least : tie.Need-cast-least
 cast-least c = search needs
 
--- src/lib.rt:62:5
 least-requires : tie.Need-least-requires
 least-requires c κs = search needs
 
--- src/lib.rt:62:46
 repeats-of-requires : tie.Need-repeats-of-requires
 repeats-of-requires c κs = search needs
 
--- src/lib.rt:62:5
 add-result : tie.Need-add-result
 add-result c = search needs
 
--- src/lib.rt:58:1
 returns : tie.Need-returns
 unfolding playedLen
 returns c = let w = c .before .before .before .before .args .workout in

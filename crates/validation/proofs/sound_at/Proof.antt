@@ -1,20 +1,15 @@
+-- `sound_at`: a used place is asked question 8, an unused one passes.
 use borrow.Author.Tests.{lt-ltb, le-ltb}
 use borrow.Author.Needs.{needs}
 use Rattle.validation.proofs.sound_at.Statement.{statement}
 use Rattle.validation.proofs.sound_at.Tie as tie
-use Rattle.validation.proofs.sound_at.Reads as reads
-use Rattle.validation.proofs.sound_at.Lts as lts
-use Rattle.validation.proofs.step_ok.Reads as step-ok-reads
 
--- src/lib.rt:60:9
 step-ok-requires : tie.Need-step-ok-requires
 step-ok-requires c κs = search needs
 
--- src/lib.rt:56:1
 returns : tie.Need-returns
 returns c = simp (lt-ltb _ _ (c .before .if1 .taken), c .step-ok .ensures)
 
--- src/lib.rt:56:1
 returns-2 : tie.Need-returns-2
 returns-2 c = simp (le-ltb _ _ (c .if1 .left))
 

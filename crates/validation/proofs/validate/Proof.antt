@@ -1,47 +1,34 @@
+-- `validate`: each return is the first of the questions 6 to 9 that fails, or none.
+use mathlib.Core.Path.{_≡_, _∙_, sym, ap}
+use Prim.Native.Nat.{ℕ}
+use native.Mathlib.Omega.{arith}
+use lib.ListN.{length, length-take, length-map}
 use borrow.Author.Tests.{not-true, not-false}
-use Rattle.validation.proofs.Laws.{no-steps, block-fault, step-fault, too-long, accepted}
+use borrow.Author.Needs.{needs}
 use Rattle.blocks.specs.Blocks.{blocksSound}
 use Rattle.model.specs.Workout.{stepsOf, blocksOf}
-use lib.ListN.{length, length-take, length-map}
-use native.Mathlib.Omega.{arith}
-use Prim.Native.Nat.{ℕ}
-use mathlib.Core.Path.{_≡_, _∙_, sym, ap}
-use borrow.Author.Needs.{needs}
+use Rattle.validation.proofs.Laws.{no-steps, block-fault, step-fault, too-long, accepted}
 use Rattle.validation.proofs.validate.Statement.{statement}
 use Rattle.validation.proofs.validate.Tie as tie
-use Rattle.validation.proofs.validate.Reads as reads
-use Rattle.validation.proofs.validate.Lts as lts
-use Rattle.blocks.proofs.blocks_sound.Reads as blocks-sound-reads
-use Rattle.common.proofs.least.Reads as least-reads
-use Rattle.order.proofs.played_len.Reads as played-len-reads
-use Rattle.validation.proofs.invalid.Reads as invalid-reads
-use Rattle.validation.proofs.steps_sound.Reads as steps-sound-reads
 
--- src/lib.rt:101:9
 invalid-requires : tie.Need-invalid-requires
 invalid-requires c κs = search needs
 
--- src/lib.rt:101:9
 returns : tie.Need-returns
 returns c = c .invalid .ensures ∙ no-steps (c .before .before .before .before .args .workout) (c .before .if1 .taken)
 
--- src/lib.rt:103:57
 cast-least : tie.Need-cast-least
 cast-least c = search needs
 
--- src/lib.rt:103:51
 least-requires : tie.Need-least-requires
 least-requires c κs = search needs
 
--- src/lib.rt:103:9
 blocks-sound-requires : tie.Need-blocks-sound-requires
 blocks-sound-requires c κs = search needs
 
--- src/lib.rt:104:9
 invalid-requires-2 : tie.Need-invalid-requires-2
 invalid-requires-2 c κs = search needs
 
--- src/lib.rt:104:9
 returns-2 : tie.Need-returns-2
 returns-2 c = let w = c .before .before .before .before .before .before .before .args .workout in
     let long : length (w .steps) ≡ 12 = sym (length-map (w .steps) _) ∙ c .before .before .before .before .before .before .before .good .0 .1 .1 .1 .0 .1 .0 .1 in
@@ -49,15 +36,12 @@ returns-2 c = let w = c .before .before .before .before .before .before .before 
     let blocks : c .before .before .blocks-sound .result ≡ blocksSound (length (stepsOf w)) (blocksOf w) = c .before .before .blocks-sound .ensures ∙ ap (λ (n : ℕ). blocksSound n (blocksOf w)) used in
     c .invalid2 .ensures ∙ block-fault w (omega arith) (sym blocks ∙ not-true _ (c .before .if2 .taken))
 
--- src/lib.rt:106:9
 steps-sound-requires : tie.Need-steps-sound-requires
 steps-sound-requires c κs = search needs
 
--- src/lib.rt:107:9
 invalid-requires-3 : tie.Need-invalid-requires-3
 invalid-requires-3 c κs = search needs
 
--- src/lib.rt:107:9
 returns-3 : tie.Need-returns-3
 returns-3 c = let w = c .before .before .before .before .before .before .before .before .before .args .workout in
     let long : length (w .steps) ≡ 12 = sym (length-map (w .steps) _) ∙ c .before .before .before .before .before .before .before .before .before .good .0 .1 .1 .1 .0 .1 .0 .1 in
@@ -65,15 +49,12 @@ returns-3 c = let w = c .before .before .before .before .before .before .before 
     let blocks : c .before .before .before .before .blocks-sound .result ≡ blocksSound (length (stepsOf w)) (blocksOf w) = c .before .before .before .before .blocks-sound .ensures ∙ ap (λ (n : ℕ). blocksSound n (blocksOf w)) used in
     c .invalid3 .ensures ∙ step-fault w (omega arith) (sym blocks ∙ not-false _ (c .before .before .before .if2 .left)) (sym (c .before .before .steps-sound .ensures) ∙ not-true _ (c .before .if3 .taken))
 
--- src/lib.rt:109:21
 played-len-requires : tie.Need-played-len-requires
 played-len-requires c κs = search needs
 
--- src/lib.rt:110:9
 invalid-requires-4 : tie.Need-invalid-requires-4
 invalid-requires-4 c κs = search needs
 
--- src/lib.rt:110:9
 returns-4 : tie.Need-returns-4
 returns-4 c = let w = c .before .before .before .before .before .before .before .before .before .before .before .args .workout in
     let long : length (w .steps) ≡ 12 = sym (length-map (w .steps) _) ∙ c .before .before .before .before .before .before .before .before .before .before .before .good .0 .1 .1 .1 .0 .1 .0 .1 in
@@ -81,7 +62,6 @@ returns-4 c = let w = c .before .before .before .before .before .before .before 
     let blocks : c .before .before .before .before .before .before .blocks-sound .result ≡ blocksSound (length (stepsOf w)) (blocksOf w) = c .before .before .before .before .before .before .blocks-sound .ensures ∙ ap (λ (n : ℕ). blocksSound n (blocksOf w)) used in
     c .invalid4 .ensures ∙ too-long w (omega arith) (sym blocks ∙ not-false _ (c .before .before .before .before .before .if2 .left)) (sym (c .before .before .before .before .steps-sound .ensures) ∙ not-false _ (c .before .before .before .if3 .left)) (omega (arith, c .before .before .played-len .ensures))
 
--- src/lib.rt:94:1
 returns-5 : tie.Need-returns-5
 returns-5 c = let w = c .before .before .before .before .before .before .before .before .before .before .args .workout in
     let long : length (w .steps) ≡ 12 = sym (length-map (w .steps) _) ∙ c .before .before .before .before .before .before .before .before .before .before .good .0 .1 .1 .1 .0 .1 .0 .1 in

@@ -1,21 +1,16 @@
+-- `above`: the two branches are the two cases of the test.
 use native.Mathlib.Omega.{arith}
 use borrow.Author.Tests.{lt-ltb, le-ltb}
 use borrow.Author.Needs.{needs}
 use Rattle.zones.proofs.above.Statement.{statement}
 use Rattle.zones.proofs.above.Tie as tie
-use Rattle.zones.proofs.above.Reads as reads
-use Rattle.zones.proofs.above.Lts as lts
-use Rattle.zones.proofs.percent.Reads as percent-reads
 
--- src/lib.rt:46:8
 percent-requires : tie.Need-percent-requires
 percent-requires c κs = search needs
 
--- src/lib.rt:43:1
 returns : tie.Need-returns
 returns c = (rw (← c .before .percent .ensures .0, lt-ltb _ _ (c .if1 .taken)), omega arith)
 
--- src/lib.rt:43:1
 returns-2 : tie.Need-returns-2
 returns-2 c = (rw (← c .before .percent .ensures .0, le-ltb _ _ (c .if1 .left)), omega arith)
 

@@ -1,137 +1,101 @@
-use Rattle.zones.proofs.Laws.{heart-next}
-use native.Mathlib.Omega.{arith}
-use Rattle.model.specs.Target.{bandOf}
+-- `Target::band`: one case for each kind of target. Where a heart zone ends is at least 1, so 1 can be taken from it.
 use borrow.Author.Needs.{needs}
+use Rattle.zones.proofs.Laws.{heart-next}
+use Rattle.model.specs.Target.{bandOf}
 use Rattle.model.proofs.Target.band.Statement.{statement}
 use Rattle.model.proofs.Target.band.Tie as tie
-use Rattle.model.proofs.Target.band.Reads as reads
-use Rattle.model.proofs.Target.band.Lts as lts
-use Rattle.model.proofs.Ramp.band.Reads as band-reads
-use Rattle.model.proofs.capped_percent.Reads as capped-percent-reads
-use Rattle.model.proofs.ftp_ramp.Reads as ftp-ramp-reads
-use Rattle.model.proofs.low_bits.Reads as low-bits-reads
-use Rattle.zones.proofs.TrainingProfile.heart_range.Reads as heart-range-reads
 
--- src/lib.rt:251:29
 enum-told : tie.Need-enum-told
 enum-told c = search needs
 
--- src/lib.rt:252:27
 enum-known-self : tie.Need-enum-known-self
 enum-known-self c = search needs
 
--- src/lib.rt:254:22
 capped-percent-requires : tie.Need-capped-percent-requires
 capped-percent-requires c κs = search needs
 
--- src/lib.rt:255:23
 capped-percent-requires-2 : tie.Need-capped-percent-requires-2
 capped-percent-requires-2 c κs = search needs
 
--- src/lib.rt:257:29
 enum-known-self-2 : tie.Need-enum-known-self-2
 enum-known-self-2 c = search needs
 
--- src/lib.rt:262:31
 enum-known-self-3 : tie.Need-enum-known-self-3
 enum-known-self-3 c = search needs
 
--- src/lib.rt:263:21
 heart-range-requires : tie.Need-heart-range-requires
 heart-range-requires c κs = search needs
 
--- src/lib.rt:266:26
 low-bits-requires : tie.Need-low-bits-requires
 low-bits-requires c κs = search needs
 
--- src/lib.rt:267:36
 sub-low-bits : tie.Need-sub-low-bits
 sub-low-bits c = rw (c .before .before .heart-range .ensures) (heart-next _ _)
 
--- src/lib.rt:267:27
 low-bits-requires-2 : tie.Need-low-bits-requires-2
 low-bits-requires-2 c κs = search needs
 
--- src/lib.rt:270:28
 enum-known-self-4 : tie.Need-enum-known-self-4
 enum-known-self-4 c = search needs
 
--- src/lib.rt:272:22
 capped-percent-requires-3 : tie.Need-capped-percent-requires-3
 capped-percent-requires-3 c κs = search needs
 
--- src/lib.rt:273:23
 capped-percent-requires-4 : tie.Need-capped-percent-requires-4
 capped-percent-requires-4 c κs = search needs
 
--- src/lib.rt:275:31
 enum-known-self-5 : tie.Need-enum-known-self-5
 enum-known-self-5 c = search needs
 
--- src/lib.rt:277:22
 cast-t39 : tie.Need-cast-t39
 cast-t39 c = search needs
 
--- src/lib.rt:278:23
 cast-t40 : tie.Need-cast-t40
 cast-t40 c = search needs
 
--- src/lib.rt:280:28
 enum-known-self-6 : tie.Need-enum-known-self-6
 enum-known-self-6 c = search needs
 
--- src/lib.rt:282:34
 band-requires : tie.Need-band-requires
 band-requires c κs = search needs
 
--- src/lib.rt:284:31
 enum-known-self-7 : tie.Need-enum-known-self-7
 enum-known-self-7 c = search needs
 
--- src/lib.rt:285:21
 ftp-ramp-requires : tie.Need-ftp-ramp-requires
 ftp-ramp-requires c κs = search needs
 
--- src/lib.rt:286:34
 band-requires-2 : tie.Need-band-requires-2
 band-requires-2 c κs = search needs
 
--- src/lib.rt:247:5
 returns : tie.Need-returns
 unfolding bandOf
 returns c = simp (c .enum-told .given .1)
 
--- src/lib.rt:247:5
 returns-2 : tie.Need-returns-2
 unfolding bandOf
 returns-2 c = simp (c .before .before .before .self .given .1, c .before .capped-percent .ensures, c .capped-percent2 .ensures)
 
--- src/lib.rt:247:5
 returns-3 : tie.Need-returns-3
 unfolding bandOf
 returns-3 c = simp (c .before .self2 .given .1)
 
--- src/lib.rt:247:5
 returns-4 : tie.Need-returns-4
 unfolding bandOf
 returns-4 c = simp (c .before .before .before .before .before .self3 .given .1, c .low-bits2 .ensures, c .before .before .low-bits .ensures, c .before .before .before .heart-range .ensures)
 
--- src/lib.rt:247:5
 returns-5 : tie.Need-returns-5
 unfolding bandOf
 returns-5 c = simp (c .before .before .before .self4 .given .1, c .before .capped-percent3 .ensures, c .capped-percent4 .ensures)
 
--- src/lib.rt:247:5
 returns-6 : tie.Need-returns-6
 unfolding bandOf
 returns-6 c = simp (c .before .self5 .given .1)
 
--- src/lib.rt:247:5
 returns-7 : tie.Need-returns-7
 unfolding bandOf
 returns-7 c = simp (c .before .before .self6 .given .1, c .band .ensures)
 
--- src/lib.rt:247:5
 returns-8 : tie.Need-returns-8
 unfolding bandOf
 returns-8 c = simp (c .before .before .before .self7 .given .1, c .band2 .ensures, c .before .ftp-ramp .ensures)

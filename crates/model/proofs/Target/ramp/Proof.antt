@@ -1,83 +1,64 @@
-use Rattle.model.specs.Target.{rampOption}
+-- `Target::ramp`: one case for each kind of target.
 use borrow.Author.Needs.{needs}
+use Rattle.model.specs.Target.{rampOption}
 use Rattle.model.proofs.Target.ramp.Statement.{statement}
 use Rattle.model.proofs.Target.ramp.Tie as tie
-use Rattle.model.proofs.Target.ramp.Reads as reads
-use Rattle.model.proofs.Target.ramp.Lts as lts
-use Rattle.model.proofs.ftp_ramp.Reads as ftp-ramp-reads
 
--- src/lib.rt:233:29
 enum-told : tie.Need-enum-told
 enum-told c = search needs
 
--- src/lib.rt:234:48
 enum-told-2 : tie.Need-enum-told-2
 enum-told-2 c = search needs
 
--- src/lib.rt:235:50
 enum-told-3 : tie.Need-enum-told-3
 enum-told-3 c = search needs
 
--- src/lib.rt:236:37
 enum-told-4 : tie.Need-enum-told-4
 enum-told-4 c = search needs
 
--- src/lib.rt:237:49
 enum-told-5 : tie.Need-enum-told-5
 enum-told-5 c = search needs
 
--- src/lib.rt:238:52
 enum-told-6 : tie.Need-enum-told-6
 enum-told-6 c = search needs
 
--- src/lib.rt:239:28
 enum-known-self : tie.Need-enum-known-self
 enum-known-self c = search needs
 
--- src/lib.rt:240:31
 enum-known-self-2 : tie.Need-enum-known-self-2
 enum-known-self-2 c = search needs
 
--- src/lib.rt:241:34
 ftp-ramp-requires : tie.Need-ftp-ramp-requires
 ftp-ramp-requires c κs = search needs
 
--- src/lib.rt:229:5
 returns : tie.Need-returns
 unfolding rampOption
 returns c = simp (c .enum-told .given .1)
 
--- src/lib.rt:229:5
 returns-2 : tie.Need-returns-2
 unfolding rampOption
 returns-2 c = simp (c .enum-told2 .given .1)
 
--- src/lib.rt:229:5
 returns-3 : tie.Need-returns-3
 unfolding rampOption
 returns-3 c = simp (c .enum-told3 .given .1)
 
--- src/lib.rt:229:5
 returns-4 : tie.Need-returns-4
 unfolding rampOption
 returns-4 c = simp (c .enum-told4 .given .1)
 
--- src/lib.rt:229:5
 returns-5 : tie.Need-returns-5
 unfolding rampOption
 returns-5 c = simp (c .enum-told5 .given .1)
 
--- src/lib.rt:229:5
 returns-6 : tie.Need-returns-6
 unfolding rampOption
 returns-6 c = simp (c .enum-told6 .given .1)
 
--- src/lib.rt:229:5
 returns-7 : tie.Need-returns-7
 unfolding rampOption
 returns-7 c = simp (c .before .self .given .1)
 
--- src/lib.rt:229:5
 returns-8 : tie.Need-returns-8
 unfolding rampOption
 returns-8 c = simp (c .before .before .self2 .given .1, c .ftp-ramp .ensures)

@@ -1,45 +1,34 @@
-use Rattle.zones.specs.Zones.{heartZone}
+-- `TrainingProfile::heart_zone`: 1 and one more for each bound reached.
 use native.Mathlib.Omega.{arith}
 use borrow.Author.Needs.{needs}
+use Rattle.zones.specs.Zones.{heartZone}
 use Rattle.zones.proofs.TrainingProfile.heart_zone.Statement.{statement}
 use Rattle.zones.proofs.TrainingProfile.heart_zone.Tie as tie
-use Rattle.zones.proofs.TrainingProfile.heart_zone.Reads as reads
-use Rattle.zones.proofs.TrainingProfile.heart_zone.Lts as lts
-use Rattle.zones.proofs.reached.Reads as reached-reads
 
--- src/lib.rt:135:15
 reached-requires : tie.Need-reached-requires
 reached-requires c κs = search needs
 
--- src/lib.rt:134:9
 add-result : tie.Need-add-result
 add-result c = search needs
 
--- src/lib.rt:136:15
 reached-requires-2 : tie.Need-reached-requires-2
 reached-requires-2 c κs = search needs
 
--- src/lib.rt:134:9
 add-result-2 : tie.Need-add-result-2
 add-result-2 c = search needs
 
--- src/lib.rt:137:15
 reached-requires-3 : tie.Need-reached-requires-3
 reached-requires-3 c κs = search needs
 
--- src/lib.rt:134:9
 add-result-3 : tie.Need-add-result-3
 add-result-3 c = search needs
 
--- src/lib.rt:138:15
 reached-requires-4 : tie.Need-reached-requires-4
 reached-requires-4 c κs = search needs
 
--- src/lib.rt:134:9
 add-result-4 : tie.Need-add-result-4
 add-result-4 c = search needs
 
--- src/lib.rt:130:5
 returns : tie.Need-returns
 unfolding heartZone
 returns c = omega (arith, c .before .before .before .reached .ensures .0, c .before .before .reached2 .ensures .0, c .before .reached3 .ensures .0, c .reached4 .ensures .0)

@@ -1,28 +1,21 @@
+-- `TrainingProfile::new`: one case for each answer of `check`.
 use mathlib.Core.Path.{sym, _∙_}
 use borrow.Author.Needs.{needs}
 use Rattle.zones.proofs.TrainingProfile.new.Statement.{statement}
 use Rattle.zones.proofs.TrainingProfile.new.Tie as tie
-use Rattle.zones.proofs.TrainingProfile.new.Reads as reads
-use Rattle.zones.proofs.TrainingProfile.new.Lts as lts
-use Rattle.zones.proofs.TrainingProfile.check.Reads as check-reads
 
--- src/lib.rt:109:15
 check-requires : tie.Need-check-requires
 check-requires c κs = search needs
 
--- src/lib.rt:110:33
 enum-told : tie.Need-enum-told
 enum-told c = search needs
 
--- src/lib.rt:111:29
 enum-known-refusal : tie.Need-enum-known-refusal
 enum-known-refusal c = search needs
 
--- src/lib.rt:102:5
 returns : tie.Need-returns
 returns c = simp (sym (c .before .before .check .ensures) ∙ c .enum-told .given .1)
 
--- src/lib.rt:102:5
 returns-2 : tie.Need-returns-2
 returns-2 c = simp (sym (c .before .before .before .check .ensures) ∙ c .before .refusal .given .1)
 
