@@ -21,7 +21,7 @@ band-word-requires c κs = search needs
 
 returns : tie.Need-returns
 unfolding bandAnswer
-returns c = cc
+returns c = simp (c .band-word .ensures, c .before .band .ensures, c .before .before .word-at .ensures, c .before .before .before .profile-at .ensures, c .before .before .before .before .target-at .ensures)
 
 pub band-answer-spec : {M : Type 1} → statement M
 band-answer-spec =

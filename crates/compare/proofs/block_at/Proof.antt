@@ -21,7 +21,7 @@ u8-at-requires-3 c κs = search needs
 
 returns : tie.Need-returns
 unfolding blockAt
-returns c = cc
+returns c = simp (c .u8-at3 .ensures, c .before .u8-at2 .ensures, c .before .before .u8-at .ensures)
 
 pub block-at-spec : {M : Type 1} → statement M
 block-at-spec =

@@ -18,7 +18,7 @@ range-word-requires c κs = search needs
 
 returns : tie.Need-returns
 unfolding heartRangeAnswer
-returns c = cc
+returns c = simp (c .range-word .ensures, c .before .heart-range .ensures, c .before .before .u8-at .ensures, c .before .before .before .profile-at .ensures)
 
 pub heart-range-answer-spec : {M : Type 1} → statement M
 heart-range-answer-spec =

@@ -21,7 +21,7 @@ four-words-requires c κs = search needs
 
 returns : tie.Need-returns
 unfolding heartZoneAnswer
-returns c = cc
+returns c = simp (c .four-words .ensures, c .before .heart-zone .ensures, c .before .before .u16-at .ensures, c .before .before .before .profile-at .ensures)
 
 pub heart-zone-answer-spec : {M : Type 1} → statement M
 heart-zone-answer-spec =

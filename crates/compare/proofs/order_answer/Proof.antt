@@ -12,7 +12,7 @@ order-word-requires c κs = search needs
 
 returns : tie.Need-returns
 unfolding orderAnswer
-returns c = cc
+returns c = simp (c .order-word .ensures, c .before .workout-at .ensures)
 
 pub order-answer-spec : {M : Type 1} → statement M
 order-answer-spec = tie.close (tie.spec workout-at-requires order-word-requires returns)

@@ -18,7 +18,7 @@ percent-word-requires c κs = search needs
 
 returns : tie.Need-returns
 unfolding percentAnswer
-returns c = cc
+returns c = simp (c .percent-word .ensures, c .before .percent .ensures .0, c .before .before .u8-at .ensures, c .before .before .before .u16-at .ensures)
 
 pub percent-answer-spec : {M : Type 1} → statement M
 percent-answer-spec =

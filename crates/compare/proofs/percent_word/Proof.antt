@@ -13,7 +13,7 @@ four-words-requires : tie.Need-four-words-requires
 four-words-requires c κs = search needs
 
 returns : tie.Need-returns
-returns c = cc
+returns c = simp (c .four-words .ensures, c .before .least .ensures)
 
 pub percent-word-spec : {M : Type 1} → statement M
 percent-word-spec = tie.close (tie.spec least-requires cast-four-words four-words-requires returns)

@@ -12,7 +12,7 @@ u16-at-requires-2 c κs = search needs
 
 returns : tie.Need-returns
 unfolding profileAt
-returns c = cc
+returns c = simp (c .u16-at2 .ensures, c .before .u16-at .ensures)
 
 pub profile-at-spec : {M : Type 1} → statement M
 profile-at-spec = tie.close (tie.spec u16-at-requires u16-at-requires-2 returns)

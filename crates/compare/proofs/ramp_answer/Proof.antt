@@ -18,7 +18,7 @@ ramp-word-requires c κs = search needs
 
 returns : tie.Need-returns
 unfolding rampAnswer
-returns c = cc
+returns c = simp (c .ramp-word .ensures, c .before .ramp .ensures, c .before .before .profile-at .ensures, c .before .before .before .target-at .ensures)
 
 pub ramp-answer-spec : {M : Type 1} → statement M
 ramp-answer-spec =

@@ -15,7 +15,7 @@ u16-at-requires-3 c κs = search needs
 
 returns : tie.Need-returns
 unfolding rampAt
-returns c = cc
+returns c = simp (c .u16-at3 .ensures, c .before .u16-at2 .ensures, c .before .before .u16-at .ensures)
 
 pub ramp-at-spec : {M : Type 1} → statement M
 ramp-at-spec = tie.close (tie.spec u16-at-requires u16-at-requires-2 u16-at-requires-3 returns)

@@ -18,7 +18,7 @@ stage-word-requires c κs = search needs
 
 returns : tie.Need-returns
 unfolding stageAnswer
-returns c = cc
+returns c = simp (c .stage-word .ensures, c .before .word-at2 .ensures, c .before .before .word-at .ensures, c .before .before .before .ramp-at .ensures)
 
 pub stage-answer-spec : {M : Type 1} → statement M
 stage-answer-spec =

@@ -22,7 +22,7 @@ four-words-requires : tie.Need-four-words-requires
 four-words-requires c κs = search needs
 
 returns : tie.Need-returns
-returns c = cc
+returns c = simp (c .four-words .ensures, c .before .watts .ensures, c .before .before .stage-watts .ensures, c .before .before .before .stage .ensures)
 
 pub stage-word-spec : {M : Type 1} → statement M
 stage-word-spec =

@@ -30,7 +30,7 @@ target-of-requires c κs = search needs
 
 returns : tie.Need-returns
 unfolding targetAt
-returns c = cc
+returns c = simp (c .target-of .ensures, c .before .word-at4 .ensures, c .before .before .word-at3 .ensures, c .before .before .before .word-at2 .ensures, c .before .before .before .before .word-at .ensures)
 
 pub target-at-spec : {M : Type 1} → statement M
 target-at-spec =

@@ -18,7 +18,7 @@ four-words-requires c κs = search needs
 
 returns : tie.Need-returns
 unfolding validateAnswer
-returns c = cc
+returns c = simp (c .four-words .ensures, c .before .refused-number .ensures, c .before .before .validate .ensures, c .before .before .before .workout-at .ensures)
 
 pub validate-answer-spec : {M : Type 1} → statement M
 validate-answer-spec =
