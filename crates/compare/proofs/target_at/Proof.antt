@@ -1,0 +1,47 @@
+-- `compare::target_at` gives the target of four words.
+use borrow.Author.Needs.{needs}
+use Rattle.compare.specs.Input.{targetAt}
+use Rattle.compare.proofs.target_at.Statement.{statement}
+use Rattle.compare.proofs.target_at.Tie as tie
+
+word-at-requires : tie.Need-word-at-requires
+word-at-requires c κs = search needs
+
+add-word-at : tie.Need-add-word-at
+add-word-at c = search needs
+
+word-at-requires-2 : tie.Need-word-at-requires-2
+word-at-requires-2 c κs = search needs
+
+add-word-at-2 : tie.Need-add-word-at-2
+add-word-at-2 c = search needs
+
+word-at-requires-3 : tie.Need-word-at-requires-3
+word-at-requires-3 c κs = search needs
+
+add-word-at-3 : tie.Need-add-word-at-3
+add-word-at-3 c = search needs
+
+word-at-requires-4 : tie.Need-word-at-requires-4
+word-at-requires-4 c κs = search needs
+
+target-of-requires : tie.Need-target-of-requires
+target-of-requires c κs = search needs
+
+returns : tie.Need-returns
+unfolding targetAt
+returns c = simp (c .target-of .ensures, c .before .word-at4 .ensures, c .before .before .word-at3 .ensures, c .before .before .before .word-at2 .ensures, c .before .before .before .before .word-at .ensures)
+
+pub target-at-spec : {M : Type 1} → statement M
+target-at-spec =
+    tie.close
+    (tie.spec
+    word-at-requires
+    add-word-at
+    word-at-requires-2
+    add-word-at-2
+    word-at-requires-3
+    add-word-at-3
+    word-at-requires-4
+    target-of-requires
+    returns)
