@@ -1,7 +1,7 @@
 -- Document 01, 'Bench sheet': the lines marked P, of what is there so far.
 use mathlib.Core.Path.{_≡_}
 use mathlib.Core.List.{List, [], _∷_, map}
-use Prim.Native.Nat.{ℕ, _-_}
+use Prim.Native.Nat.{ℕ}
 use lib.ListN.{length, replicate}
 use Rattle.common.specs.Lists.{padded}
 use Rattle.refusal.specs.Number.{answerNumber}
@@ -19,6 +19,7 @@ use Rattle.model.specs.Target.{band, bandOf}
 use Rattle.model.specs.Workout.{noStep, noBlock}
 use Rattle.order.specs.Order.{orderOf, playedLen}
 use Rattle.validation.specs.Sound.{workoutAnswer}
+use Rattle.decode.specs.Decode.{decodeOf}
 
 abbrev pub profile : ℕ → ℕ → TrainingProfile
 profile ftp lthr = record { «ftp_watts» = ftp; «lthr_bpm» = lthr }
@@ -39,6 +40,10 @@ abbrev pub block : ℕ → ℕ → ℕ → Block
 block first len count = record { first = first; len = len; count = count }
 
 pub record BenchSheet : Type 0 where
+  -- "3 bytes: 1; 4: 2; 476: 1.": every file of that length
+  pub bytes-3 : (s : List ℕ) → length s ≡ 3 → answerNumber (decodeOf s .answer) ≡ 1
+  pub bytes-4 : (s : List ℕ) → length s ≡ 4 → answerNumber (decodeOf s .answer) ≡ 2
+  pub bytes-476 : (s : List ℕ) → length s ≡ 476 → answerNumber (decodeOf s .answer) ≡ 1
   -- "Block 0, 2, 3 over three steps plays 0,1,0,1,0,1,2."
   pub order : map (λ place. place .index) (orderOf (repeated 3 (block 0 2 3))) ≡ 0 ∷ 1 ∷ 0 ∷ 1 ∷ 0 ∷ 1 ∷ 2 ∷ []
   -- "12 steps by 8 is 96, by 9 refused 9."

@@ -16,7 +16,7 @@ use Rattle.refusal.specs.declared.Refusal.the-variants as refusals
 use Rattle.model.specs.declared.Step.{Step}
 use Rattle.model.specs.declared.Block.{Block}
 use Rattle.model.specs.Workout.{noStep, noBlock}
-use Rattle.cursor.specs.Reading.{Read, got, refused, andThen, takeBytes}
+use Rattle.cursor.specs.Reading.{Read, got, refused, andThen}
 use Rattle.cursor.specs.Names.{takenAt}
 use Rattle.cursor.specs.declared.Cursor.{Cursor}
 use Rattle.cursor.specs.declared.Taken.the-variants as taken
@@ -25,7 +25,6 @@ use Rattle.steps.specs.Steps.{readStep, stepBy, stepAt}
 use Rattle.steps.specs.declared.StepRead.{StepRead}
 use Rattle.decode.specs.declared.StepsRead.{StepsRead}
 use Rattle.decode.specs.declared.BlocksRead.{BlocksRead}
-use Rattle.decode.specs.declared.BlockOption.{BlockOption}
 use Rattle.decode.specs.declared.BlockOption.the-variants as block
 use Rattle.decode.specs.Decode.{blockOf, readBlock, blockBy, blockAt, stepsBy, blocksBy}
 

@@ -1,21 +1,17 @@
+-- `decode::byte_or_0` meets its contract: past the end a list reads as 0.
 use lib.ListN.{List·getD-eq-default}
 use denote.Ref.{now}
 use mathlib.Core.Path.{sym, refl}
 use borrow.Author.Needs.{needs}
 use Rattle.decode.proofs.byte_or_0.Statement.{statement}
 use Rattle.decode.proofs.byte_or_0.Tie as tie
-use Rattle.decode.proofs.byte_or_0.Reads as reads
-use Rattle.decode.proofs.byte_or_0.Lts as lts
 
--- src/lib.rt:269:27
 shared-slice-read-result : tie.Need-shared-slice-read-result
 shared-slice-read-result c = search needs
 
--- src/lib.rt:266:1
 returns : tie.Need-returns
 returns c = refl
 
--- src/lib.rt:266:1
 returns-2 : tie.Need-returns-2
 returns-2 c = sym (List·getD-eq-default (now (c .before .args .bytes)) 0 {n = c .before .args .at} (c .if1 .left))
 

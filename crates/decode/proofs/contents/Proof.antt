@@ -1,38 +1,25 @@
-use Rattle.decode.proofs.Body.{headIn, head-given, head-refusal, steps-given, steps-refusal, blocks-given, blocks-refusal, head-fails, steps-fail, blocks-fail, left-over, all-read, workoutIn}
-use Rattle.decode.specs.Decode.{judged}
+-- `decode::contents` meets its contract: each return is one way that reading the body can end.
+use denote.Ref.{now}
+use mathlib.Core.List.{List}
+use mathlib.Core.Path.{ap₂, _∙_}
+use borrow.Author.Needs.{needs}
 use Rattle.validation.specs.Sound.{validAnswer}
-use Rattle.model.specs.declared.Workout.{Workout}
 use Rattle.model.specs.declared.Block.{Block}
 use Rattle.model.specs.declared.Step.{Step}
-use Rattle.refusal.specs.declared.Refusal.the-variants as refusals
-use denote.Ref.{now}
-use native.Mathlib.Omega.{arith}
-use mathlib.Core.List.{List}
-use mathlib.Core.Path.{_≡_, sym, ap, ap₂, _∙_}
-use borrow.Author.Needs.{needs}
+use Rattle.decode.proofs.Body.{headIn, head-given, head-refusal, steps-given, steps-refusal, blocks-given, blocks-refusal, head-fails, steps-fail, blocks-fail, left-over, all-read, workoutIn}
+use Rattle.decode.specs.Decode.{judged}
 use Rattle.decode.proofs.contents.Statement.{statement}
 use Rattle.decode.proofs.contents.Tie as tie
-use Rattle.decode.proofs.contents.Reads as reads
-use Rattle.decode.proofs.contents.Lts as lts
-use Rattle.decode.proofs.judge.Reads as judge-reads
-use Rattle.decode.proofs.no_workout.Reads as no-workout-reads
-use Rattle.decode.proofs.read_blocks.Reads as read-blocks-reads
-use Rattle.decode.proofs.read_head.Reads as read-head-reads
-use Rattle.decode.proofs.read_steps.Reads as read-steps-reads
 
--- src/lib.rt:230:9
 read-head-requires : tie.Need-read-head-requires
 read-head-requires c κs = search needs
 
--- src/lib.rt:232:28
 enum-known-answer : tie.Need-enum-known-answer
 enum-known-answer c = search needs
 
--- src/lib.rt:233:9
 no-workout-requires : tie.Need-no-workout-requires
 no-workout-requires c κs = search needs
 
--- src/lib.rt:233:9
 returns : tie.Need-returns
 returns c = let s = now (c .before .before .before .before .before .before .args .body) in
     let h = c .before .before .before .before .read-head .result in
@@ -42,23 +29,18 @@ returns c = let s = now (c .before .before .before .before .before .before .args
 enum-told : tie.Need-enum-told
 enum-told c = search needs
 
--- src/lib.rt:238:43
 cast-read-steps : tie.Need-cast-read-steps
 cast-read-steps c = search needs
 
--- src/lib.rt:238:9
 read-steps-requires : tie.Need-read-steps-requires
 read-steps-requires c κs = c .before .before .before .before .before .read-head .ensures .1
 
--- src/lib.rt:240:28
 enum-known-answer-2 : tie.Need-enum-known-answer-2
 enum-known-answer-2 c = search needs
 
--- src/lib.rt:241:9
 no-workout-requires-2 : tie.Need-no-workout-requires-2
 no-workout-requires-2 c κs = search needs
 
--- src/lib.rt:241:9
 returns-2 : tie.Need-returns-2
 returns-2 c = let s = now (c .before .before .before .before .before .before .before .before .before .before .before .before .args .body) in
     let h = c .before .before .before .before .before .before .before .before .before .before .read-head .result in
@@ -72,23 +54,18 @@ returns-2 c = let s = now (c .before .before .before .before .before .before .be
 enum-told-2 : tie.Need-enum-told-2
 enum-told-2 c = search needs
 
--- src/lib.rt:245:45
 cast-read-blocks : tie.Need-cast-read-blocks
 cast-read-blocks c = search needs
 
--- src/lib.rt:245:9
 read-blocks-requires : tie.Need-read-blocks-requires
 read-blocks-requires c κs = c .before .before .before .before .before .before .before .before .before .before .before .read-head .ensures .2
 
--- src/lib.rt:247:28
 enum-known-answer-3 : tie.Need-enum-known-answer-3
 enum-known-answer-3 c = search needs
 
--- src/lib.rt:248:9
 no-workout-requires-3 : tie.Need-no-workout-requires-3
 no-workout-requires-3 c κs = search needs
 
--- src/lib.rt:248:9
 returns-3 : tie.Need-returns-3
 returns-3 c = let s = now (c .before .before .before .before .before .before .before .before .before .before .before .before .before .before .before .before .before .before .args .body) in
     let h = c .before .before .before .before .before .before .before .before .before .before .before .before .before .before .before .before .read-head .result in
@@ -106,11 +83,9 @@ returns-3 c = let s = now (c .before .before .before .before .before .before .be
 enum-told-3 : tie.Need-enum-told-3
 enum-told-3 c = search needs
 
--- src/lib.rt:253:9
 no-workout-requires-4 : tie.Need-no-workout-requires-4
 no-workout-requires-4 c κs = search needs
 
--- src/lib.rt:253:9
 returns-4 : tie.Need-returns-4
 returns-4 c = let s = now (c .before .before .before .before .before .before .before .before .before .before .before .before .before .before .before .before .before .before .before .before .before .args .body) in
     let h = c .before .before .before .before .before .before .before .before .before .before .before .before .before .before .before .before .before .before .before .read-head .result in
@@ -126,11 +101,9 @@ returns-4 c = let s = now (c .before .before .before .before .before .before .be
     let last = blocks-given s j (h .blocks) b b-is (c .before .before .before .before .before .enum-told3 .given .1) in
     c .no-workout4 .ensures ∙ left-over s (headIn h) k head (some .list) j (some .reading) (last .list) (b .next .at) (last .reading) (c .before .if1 .taken)
 
--- src/lib.rt:255:5
 judge-requires : tie.Need-judge-requires
 judge-requires c κs = search needs
 
--- src/lib.rt:227:1
 returns-5 : tie.Need-returns-5
 returns-5 c = let s = now (c .before .before .before .before .before .before .before .before .before .before .before .before .before .before .before .before .before .before .before .before .before .args .body) in
     let h = c .before .before .before .before .before .before .before .before .before .before .before .before .before .before .before .before .before .before .before .read-head .result in

@@ -1,33 +1,26 @@
-use Rattle.decode.proofs.Parts.{block-none, block-some}
-use Rattle.cursor.proofs.Laws.{taken-given}
+-- `decode::read_block` meets its contract: the three bytes that the cursor hands out, or none.
 use denote.Ref.{now}
 use lib.ListN.{length-drop}
 use native.Mathlib.Omega.{arith}
-use mathlib.Core.Path.{_≡_, sym, _∙_}
+use mathlib.Core.Path.{sym, _∙_}
 use borrow.Author.Needs.{needs}
+use Rattle.cursor.proofs.Laws.{taken-given}
+use Rattle.decode.proofs.Parts.{block-none, block-some}
 use Rattle.decode.proofs.read_block.Statement.{statement}
 use Rattle.decode.proofs.read_block.Tie as tie
-use Rattle.decode.proofs.read_block.Reads as reads
-use Rattle.decode.proofs.read_block.Lts as lts
-use Rattle.cursor.proofs.Cursor.take.Reads as take-reads
 
--- src/lib.rt:158:36
 take-requires : tie.Need-take-requires
 take-requires c κs = search needs
 
--- src/lib.rt:158:22
 enum-known-from : tie.Need-enum-known-from
 enum-known-from c = search needs
 
--- src/lib.rt:159:9
 enum-told : tie.Need-enum-told
 enum-told c = search needs
 
--- src/lib.rt:159:9
 returns : tie.Need-returns
 returns c = let a = c .before .before .before .before .args in block-none (now (a .bytes)) (a .cursor .at) (sym (c .before .before .take .ensures) ∙ c .enum-told .given .1)
 
--- src/lib.rt:163:20
 shared-slice-read-t7 : tie.Need-shared-slice-read-t7
 shared-slice-read-t7 c = let a = c .before .before .before .before .before .before .args in
     let s = now (a .bytes) in
@@ -37,7 +30,6 @@ shared-slice-read-t7 c = let a = c .before .before .before .before .before .befo
     let there = taken-given s at 3 from past (sym (c .before .before .before .before .take .ensures) ∙ c .before .before .from .given .1) in
     omega (arith, there .within, there .place, length-drop at s)
 
--- src/lib.rt:164:24
 add-t8 : tie.Need-add-t8
 add-t8 c = let a = c .before .before .before .before .before .before .args in
     let s = now (a .bytes) in
@@ -47,7 +39,6 @@ add-t8 c = let a = c .before .before .before .before .before .before .args in
     let there = taken-given s at 3 from past (sym (c .before .before .before .before .take .ensures) ∙ c .before .before .from .given .1) in
     omega (arith, there .within, there .place, length-drop at s)
 
--- src/lib.rt:164:18
 shared-slice-read-t10 : tie.Need-shared-slice-read-t10
 shared-slice-read-t10 c = let a = c .before .before .before .before .before .before .before .args in
     let s = now (a .bytes) in
@@ -57,7 +48,6 @@ shared-slice-read-t10 c = let a = c .before .before .before .before .before .bef
     let there = taken-given s at 3 from past (sym (c .before .before .before .before .before .take .ensures) ∙ c .before .before .before .from .given .1) in
     omega (arith, there .within, there .place, length-drop at s)
 
--- src/lib.rt:165:26
 add-t11 : tie.Need-add-t11
 add-t11 c = let a = c .before .before .before .before .before .before .before .args in
     let s = now (a .bytes) in
@@ -67,7 +57,6 @@ add-t11 c = let a = c .before .before .before .before .before .before .before .a
     let there = taken-given s at 3 from past (sym (c .before .before .before .before .before .take .ensures) ∙ c .before .before .before .from .given .1) in
     omega (arith, there .within, there .place, length-drop at s)
 
--- src/lib.rt:165:20
 shared-slice-read-t13 : tie.Need-shared-slice-read-t13
 shared-slice-read-t13 c = let a = c .before .before .before .before .before .before .before .before .args in
     let s = now (a .bytes) in
@@ -77,7 +66,6 @@ shared-slice-read-t13 c = let a = c .before .before .before .before .before .bef
     let there = taken-given s at 3 from past (sym (c .before .before .before .before .before .before .take .ensures) ∙ c .before .before .before .before .from .given .1) in
     omega (arith, there .within, there .place, length-drop at s)
 
--- src/lib.rt:155:1
 returns-2 : tie.Need-returns-2
 returns-2 c = let a = c .before .before .before .before .before .before .before .before .args in
     let s = now (a .bytes) in

@@ -1,22 +1,16 @@
-use Rattle.decode.proofs.Parts.{block-given, block-ended, blocks-read}
-use Rattle.decode.specs.Decode.{readBlock, blocksBy}
+-- `decode::read_blocks` meets its contract: the array holds the blocks read so far, and the rest is still to be read.
+use denote.Ref.{now}
+use borrow.Author.Needs.{needs}
+use native.Mathlib.Omega.{arith}
+use Prim.Native.Nat.{_-_, _≤_}
+use mathlib.Core.Path.{sym, ap, _∙_}
 use Rattle.refusal.specs.declared.Refusal.the-variants as refusals
 use Rattle.model.specs.Workout.{noBlock}
 use Rattle.cursor.proofs.Many.{Progress, progress-start, progress-step, progress-stop, progress-end}
-use Rattle.cursor.specs.Reading.{Read, got, refused}
-use denote.Ref.{now}
-use lib.ListN.{length, replicate}
-use borrow.Author.Needs.{needs}
-use native.Mathlib.Omega.{arith}
-use Prim.Native.Nat.{ℕ, _+_, _-_, _≤_}
-use mathlib.Core.List.{List, _++_}
-use mathlib.Core.Path.{_≡_, sym, ap, ap₂, _∙_, refl}
+use Rattle.decode.proofs.Parts.{block-given, block-ended, blocks-read}
+use Rattle.decode.specs.Decode.{readBlock, blocksBy}
 use Rattle.decode.proofs.read_blocks.Statement.{statement}
 use Rattle.decode.proofs.read_blocks.Tie as tie
-use Rattle.decode.proofs.read_blocks.Reads as reads
-use Rattle.decode.proofs.read_blocks.Lts as lts
-use Rattle.decode.proofs.no_blocks.Reads as no-blocks-reads
-use Rattle.decode.proofs.read_block.Reads as read-block-reads
 
 abbrev Inv-loop : tie.InvT-loop
 Inv-loop bytes cursor n blocks₀ at₀ i₀ blocks at i = (i ≤ n) × Progress readBlock bytes n (cursor .at) 8 noBlock i at blocks
@@ -24,27 +18,21 @@ Inv-loop bytes cursor n blocks₀ at₀ i₀ blocks at i = (i ≤ n) × Progress
 abbrev μ-loop : tie.MeasureT-loop
 μ-loop bytes cursor n blocks₀ at₀ i₀ blocks at i = n - i
 
--- src/lib.rt:188:5
 loop-holds : tie.Need-loop-holds Inv-loop μ-loop
 loop-holds c = let a = c .before .args in (omega arith, progress-start readBlock (now (a .bytes)) (a .n) (a .cursor .at) 8 noBlock)
 
--- src/lib.rt:189:46
 read-block-requires : tie.Need-read-block-requires Inv-loop μ-loop
 read-block-requires c κs = tt
 
--- src/lib.rt:189:31
 enum-known-block : tie.Need-enum-known-block Inv-loop μ-loop
 enum-known-block c = search needs
 
--- src/lib.rt:190:30
 enum-told : tie.Need-enum-told Inv-loop μ-loop
 enum-told c = search needs
 
--- src/lib.rt:190:13
 no-blocks-requires : tie.Need-no-blocks-requires Inv-loop μ-loop
 no-blocks-requires c κs = tt
 
--- src/lib.rt:190:13
 returns : tie.Need-returns Inv-loop μ-loop
 returns c = let a = c .before .before .before .before .before .before .before .args in
     let s = now (a .bytes) in
@@ -52,23 +40,18 @@ returns c = let a = c .before .before .before .before .before .before .before .a
     c .no-blocks .ensures ∙ ap (blocksBy (a .cursor .at)) (progress-stop readBlock s (a .n) (a .cursor .at) 8 noBlock (l .i) (l .at) (l .blocks) (l .inv .1) refusals.Length (omega arith)
     (block-ended s (l .at) (sym (c .before .before .before .read-block .ensures) ∙ c .before .enum-told .given .1)))
 
--- src/lib.rt:192:9
 mul-blocks : tie.Need-mul-blocks Inv-loop μ-loop
 mul-blocks c = search needs
 
--- src/lib.rt:192:9
 array-set-from-blocks : tie.Need-array-set-from-blocks Inv-loop μ-loop
 array-set-from-blocks c = omega arith
 
--- src/lib.rt:194:9
 add-i : tie.Need-add-i Inv-loop μ-loop
 add-i c = omega arith
 
--- src/lib.rt:188:5
 loop-less : tie.Need-loop-less Inv-loop μ-loop
 loop-less c = omega arith
 
--- src/lib.rt:188:5
 loop-again : tie.Need-loop-again Inv-loop μ-loop
 loop-again c = let a = c .before .before .before .before .before .before .before .args in
     let s = now (a .bytes) in
@@ -78,7 +61,6 @@ loop-again c = let a = c .before .before .before .before .before .before .before
     let g = block-given s (l .at) b next (sym (c .before .before .before .read-block .ensures) ∙ c .before .block .given .1) in
     (omega arith, rw (g .after) (progress-step readBlock s (a .n) (a .cursor .at) 8 noBlock (l .i) (l .at) (l .blocks) (l .inv .1) b (g .size) (omega arith) (omega arith) (g .reads)))
 
--- src/lib.rt:181:1
 returns-2 : tie.Need-returns-2 Inv-loop μ-loop
 returns-2 c = let a = c .before .before .before .args in
     let s = now (a .bytes) in

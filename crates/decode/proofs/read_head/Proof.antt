@@ -1,69 +1,54 @@
+-- `decode::read_head` meets its contract: each return is one way that reading test, name and counts can end.
 use lib.Dec.{leb}
-use Rattle.decode.specs.declared.HeadRead.{HeadRead}
 use borrow.Author.Tests.{leb-true}
-use Rattle.common.proofs.Tests.{and-left, and-right}
-use Rattle.decode.proofs.Head.{headOf, readAs, head-none, head-test, head-name, head-refused, head-read, counts-none, counts-one, counts-two}
-use Rattle.decode.specs.Decode.{Head, readCounts}
-use Rattle.cursor.proofs.Laws.{byte-given}
-use Rattle.cursor.specs.Reading.{Read, got, refused, behind, allow}
-use Rattle.cursor.specs.declared.NameRead.{NameRead}
-use Rattle.refusal.specs.declared.Refusal.the-variants as refusals
 use lib.ListN.{drop}
 use denote.Ref.{now}
 use native.Mathlib.Omega.{arith}
-use Prim.Native.Nat.{ℕ, _+_}
+use Prim.Native.Nat.{_+_}
 use mathlib.Core.Bool.{Bool}
 use mathlib.Core.Path.{_≡_, sym, ap, _∙_}
 use borrow.Author.Needs.{needs}
+use Rattle.common.proofs.Tests.{and-left, and-right}
+use Rattle.cursor.proofs.Laws.{byte-given}
+use Rattle.cursor.specs.Reading.{got, behind, allow}
+use Rattle.cursor.specs.declared.NameRead.{NameRead}
+use Rattle.refusal.specs.declared.Refusal.the-variants as refusals
+use Rattle.decode.specs.declared.HeadRead.{HeadRead}
+use Rattle.decode.proofs.Head.{headOf, readAs, head-none, head-test, head-name, head-refused, head-read, counts-none, counts-one, counts-two}
+use Rattle.decode.specs.Decode.{readCounts}
 use Rattle.decode.proofs.read_head.Statement.{statement}
 use Rattle.decode.proofs.read_head.Tie as tie
-use Rattle.decode.proofs.read_head.Reads as reads
-use Rattle.decode.proofs.read_head.Lts as lts
-use Rattle.cursor.proofs.Cursor.byte.Reads as byte-reads
-use Rattle.cursor.proofs.read_name.Reads as read-name-reads
-use Rattle.decode.proofs.no_head.Reads as no-head-reads
-use Rattle.decode.proofs.test_of.Reads as test-of-reads
 
--- src/lib.rt:87:41
 byte-requires : tie.Need-byte-requires
 byte-requires c κs = search needs
 
--- src/lib.rt:87:24
 enum-known-kind : tie.Need-enum-known-kind
 enum-known-kind c = search needs
 
--- src/lib.rt:88:24
 enum-told : tie.Need-enum-told
 enum-told c = search needs
 
--- src/lib.rt:88:9
 no-head-requires : tie.Need-no-head-requires
 no-head-requires c κs = search needs
 
--- src/lib.rt:88:9
 returns : tie.Need-returns
 returns c = let a = c .before .before .before .before .before .args in
     let s = now (a .bytes) in
     let at = a .cursor .at in
     (c .no-head .ensures ∙ head-none s at (sym (c .before .before .before .byte .ensures) ∙ c .before .enum-told .given .1), omega (arith, ap (λ (h : HeadRead). h .steps) (c .no-head .ensures)), omega (arith, ap (λ (h : HeadRead). h .blocks) (c .no-head .ensures)))
 
--- src/lib.rt:90:34
 test-of-requires : tie.Need-test-of-requires
 test-of-requires c κs = search needs
 
--- src/lib.rt:90:26
 enum-known-test : tie.Need-enum-known-test
 enum-known-test c = search needs
 
--- src/lib.rt:91:24
 enum-told-2 : tie.Need-enum-told-2
 enum-told-2 c = search needs
 
--- src/lib.rt:91:9
 no-head-requires-2 : tie.Need-no-head-requires-2
 no-head-requires-2 c κs = search needs
 
--- src/lib.rt:91:9
 returns-2 : tie.Need-returns-2
 returns-2 c = let a = c .before .before .before .before .before .before .before .before .before .args in
     let s = now (a .bytes) in
@@ -73,19 +58,15 @@ returns-2 c = let a = c .before .before .before .before .before .before .before 
     let first = byte-given s at kind c₁ (sym (c .before .before .before .before .before .before .before .byte .ensures) ∙ c .before .before .before .before .before .kind .given .1) in
     (c .no-head2 .ensures ∙ head-test s at kind c₁ first (sym (c .before .before .before .test-of .ensures) ∙ c .before .enum-told2 .given .1), omega (arith, ap (λ (h : HeadRead). h .steps) (c .no-head2 .ensures)), omega (arith, ap (λ (h : HeadRead). h .blocks) (c .no-head2 .ensures)))
 
--- src/lib.rt:93:9
 read-name-requires : tie.Need-read-name-requires
 read-name-requires c κs = search needs
 
--- src/lib.rt:97:28
 enum-known-answer : tie.Need-enum-known-answer
 enum-known-answer c = search needs
 
--- src/lib.rt:98:9
 no-head-requires-3 : tie.Need-no-head-requires-3
 no-head-requires-3 c κs = search needs
 
--- src/lib.rt:98:9
 returns-3 : tie.Need-returns-3
 returns-3 c = let a = c .before .before .before .before .before .before .before .before .before .before .before .before .before .before .before .before .args in
     let s = now (a .bytes) in
@@ -100,23 +81,18 @@ returns-3 c = let a = c .before .before .before .before .before .before .before 
 enum-told-3 : tie.Need-enum-told-3
 enum-told-3 c = search needs
 
--- src/lib.rt:100:44
 byte-requires-2 : tie.Need-byte-requires-2
 byte-requires-2 c κs = search needs
 
--- src/lib.rt:100:24
 enum-known-steps : tie.Need-enum-known-steps
 enum-known-steps c = search needs
 
--- src/lib.rt:101:24
 enum-told-4 : tie.Need-enum-told-4
 enum-told-4 c = search needs
 
--- src/lib.rt:101:9
 no-head-requires-4 : tie.Need-no-head-requires-4
 no-head-requires-4 c κs = search needs
 
--- src/lib.rt:101:9
 returns-4 : tie.Need-returns-4
 returns-4 c = let a = c .before .before .before .before .before .before .before .before .before .before .before .before .before .before .before .before .before .before .args in
     let s = now (a .bytes) in
@@ -130,23 +106,18 @@ returns-4 c = let a = c .before .before .before .before .before .before .before 
     let f = ap (λ (x : NameRead). x .answer) (sym (c .before .before .before .before .before .before .before .before .read-name .ensures)) ∙ c .before .before .before .before .enum-told3 .given .1 in
     (c .no-head4 .ensures ∙ head-refused s at kind c₁ first t e f refusals.Length (ap (λ (x : NameRead). readCounts t (x .name) (drop (x .next .at) s)) (sym (c .before .before .before .before .before .before .before .before .read-name .ensures)) ∙ counts-none t (named .name) s (named .next .at) (sym (c .before .before .before .byte2 .ensures) ∙ c .before .enum-told4 .given .1)), omega (arith, ap (λ (h : HeadRead). h .steps) (c .no-head4 .ensures)), omega (arith, ap (λ (h : HeadRead). h .blocks) (c .no-head4 .ensures)))
 
--- src/lib.rt:103:40
 byte-requires-3 : tie.Need-byte-requires-3
 byte-requires-3 c κs = search needs
 
--- src/lib.rt:103:24
 enum-known-blocks : tie.Need-enum-known-blocks
 enum-known-blocks c = search needs
 
--- src/lib.rt:104:24
 enum-told-5 : tie.Need-enum-told-5
 enum-told-5 c = search needs
 
--- src/lib.rt:104:9
 no-head-requires-5 : tie.Need-no-head-requires-5
 no-head-requires-5 c κs = search needs
 
--- src/lib.rt:104:9
 returns-5 : tie.Need-returns-5
 returns-5 c = let a = c .before .before .before .before .before .before .before .before .before .before .before .before .before .before .before .before .before .before .before .before .before .before .args in
     let s = now (a .bytes) in
@@ -163,7 +134,6 @@ returns-5 c = let a = c .before .before .before .before .before .before .before 
     let one = byte-given s (named .next .at) steps c₂ (sym (c .before .before .before .before .before .before .before .byte2 .ensures) ∙ c .before .before .before .before .before .steps .given .1) in
     (c .no-head5 .ensures ∙ head-refused s at kind c₁ first t e f refusals.Length (ap (λ (x : NameRead). readCounts t (x .name) (drop (x .next .at) s)) (sym (c .before .before .before .before .before .before .before .before .before .before .before .before .read-name .ensures)) ∙ counts-one t (named .name) s (named .next .at) steps c₂ one (sym (c .before .before .before .byte3 .ensures) ∙ c .before .enum-told5 .given .1)), omega (arith, ap (λ (h : HeadRead). h .steps) (c .no-head5 .ensures)), omega (arith, ap (λ (h : HeadRead). h .blocks) (c .no-head5 .ensures)))
 
--- src/lib.rt:107:9
 returns-6 : tie.Need-returns-6
 returns-6 c = let a = c .before .before .before .before .before .before .before .before .before .before .before .before .before .before .before .before .before .before .before .before .before .before .before .args in
     let s = now (a .bytes) in
@@ -189,11 +159,9 @@ returns-6 c = let a = c .before .before .before .before .before .before .before 
       leb-true blocks 8 (and-right (leb steps 12) (leb blocks 8) (c .if1 .taken)),
     )
 
--- src/lib.rt:116:5
 no-head-requires-6 : tie.Need-no-head-requires-6
 no-head-requires-6 c κs = search needs
 
--- src/lib.rt:84:1
 returns-7 : tie.Need-returns-7
 returns-7 c = let a = c .before .before .before .before .before .before .before .before .before .before .before .before .before .before .before .before .before .before .before .before .before .before .before .before .args in
     let s = now (a .bytes) in

@@ -1,25 +1,17 @@
-use Rattle.decode.proofs.Parts.{step-at, step-refused, steps-read}
-use Rattle.decode.specs.Decode.{stepsBy}
-use Rattle.steps.specs.declared.StepRead.{StepRead}
-use Rattle.steps.specs.Steps.{readStep, stepAt}
-use Rattle.model.specs.declared.Step.{Step}
-use mathlib.Core.List.{_∷_}
-use Rattle.model.specs.Workout.{noStep}
-use Rattle.cursor.proofs.Many.{Progress, progress-start, progress-step, progress-stop, progress-end}
-use Rattle.cursor.specs.Reading.{Read, got, refused}
+-- `decode::read_steps` meets its contract: the array holds the steps read so far, and the rest is still to be read.
 use denote.Ref.{now}
-use lib.ListN.{length, replicate}
 use borrow.Author.Needs.{needs}
 use native.Mathlib.Omega.{arith}
-use Prim.Native.Nat.{ℕ, _+_, _-_, _≤_}
-use mathlib.Core.List.{List, _++_}
-use mathlib.Core.Path.{_≡_, sym, ap, ap₂, _∙_, refl}
+use Prim.Native.Nat.{_-_, _≤_}
+use mathlib.Core.Path.{sym, ap, _∙_}
+use Rattle.steps.specs.declared.StepRead.{StepRead}
+use Rattle.steps.specs.Steps.{readStep}
+use Rattle.model.specs.Workout.{noStep}
+use Rattle.cursor.proofs.Many.{Progress, progress-start, progress-step, progress-stop, progress-end}
+use Rattle.decode.proofs.Parts.{step-at, step-refused, steps-read}
+use Rattle.decode.specs.Decode.{stepsBy}
 use Rattle.decode.proofs.read_steps.Statement.{statement}
 use Rattle.decode.proofs.read_steps.Tie as tie
-use Rattle.decode.proofs.read_steps.Reads as reads
-use Rattle.decode.proofs.read_steps.Lts as lts
-use Rattle.decode.proofs.no_steps.Reads as no-steps-reads
-use Rattle.steps.proofs.read_step.Reads as read-step-reads
 
 abbrev Inv-loop : tie.InvT-loop
 Inv-loop bytes cursor n steps₀ at₀ i₀ steps at i = (i ≤ n) × Progress readStep bytes n (cursor .at) 12 noStep i at steps
@@ -27,23 +19,18 @@ Inv-loop bytes cursor n steps₀ at₀ i₀ steps at i = (i ≤ n) × Progress r
 abbrev μ-loop : tie.MeasureT-loop
 μ-loop bytes cursor n steps₀ at₀ i₀ steps at i = n - i
 
--- src/lib.rt:136:5
 loop-holds : tie.Need-loop-holds Inv-loop μ-loop
 loop-holds c = let a = c .before .args in (omega arith, progress-start readStep (now (a .bytes)) (a .n) (a .cursor .at) 12 noStep)
 
--- src/lib.rt:137:13
 read-step-requires : tie.Need-read-step-requires Inv-loop μ-loop
 read-step-requires c κs = tt
 
--- src/lib.rt:139:32
 enum-known-answer : tie.Need-enum-known-answer Inv-loop μ-loop
 enum-known-answer c = search needs
 
--- src/lib.rt:140:13
 no-steps-requires : tie.Need-no-steps-requires Inv-loop μ-loop
 no-steps-requires c κs = tt
 
--- src/lib.rt:140:13
 returns : tie.Need-returns Inv-loop μ-loop
 returns c = let a = c .before .before .before .before .before .before .before .before .args in
     let s = now (a .bytes) in
@@ -54,23 +41,18 @@ returns c = let a = c .before .before .before .before .before .before .before .b
 enum-told : tie.Need-enum-told Inv-loop μ-loop
 enum-told c = search needs
 
--- src/lib.rt:144:9
 mul-steps : tie.Need-mul-steps Inv-loop μ-loop
 mul-steps c = search needs
 
--- src/lib.rt:144:9
 array-set-from-steps : tie.Need-array-set-from-steps Inv-loop μ-loop
 array-set-from-steps c = omega arith
 
--- src/lib.rt:146:9
 add-i : tie.Need-add-i Inv-loop μ-loop
 add-i c = omega arith
 
--- src/lib.rt:136:5
 loop-less : tie.Need-loop-less Inv-loop μ-loop
 loop-less c = omega arith
 
--- src/lib.rt:136:5
 loop-again : tie.Need-loop-again Inv-loop μ-loop
 loop-again c = let a = c .before .before .before .before .before .before .before .before .args in
     let s = now (a .bytes) in
@@ -79,7 +61,6 @@ loop-again c = let a = c .before .before .before .before .before .before .before
     let g = step-at s (l .at) r (c .before .before .before .before .read-step .ensures) (c .before .before .enum-told .given .1) in
     (omega arith, rw (g .after) (progress-step readStep s (a .n) (a .cursor .at) 12 noStep (l .i) (l .at) (l .steps) (l .inv .1) (r .step) (g .size) (omega arith) (omega arith) (g .reads)))
 
--- src/lib.rt:129:1
 returns-2 : tie.Need-returns-2 Inv-loop μ-loop
 returns-2 c = let a = c .before .before .before .args in
     let s = now (a .bytes) in

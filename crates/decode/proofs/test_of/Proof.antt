@@ -1,29 +1,24 @@
-use Rattle.decode.specs.Decode.{testOf, testKinds}
-use Rattle.decode.specs.declared.TestOption.the-variants as test
+-- `decode::test_of` meets its contract: each kind stands at its number in the table.
 use lib.ListN.{List·getD-eq-default}
 use mathlib.Core.Path.{sym}
 use native.Mathlib.Omega.{arith}
+use Rattle.decode.specs.Decode.{testOf, testKinds}
+use Rattle.decode.specs.declared.TestOption.the-variants as test
 use Rattle.decode.proofs.test_of.Statement.{statement}
 use Rattle.decode.proofs.test_of.Tie as tie
-use Rattle.decode.proofs.test_of.Reads as reads
-use Rattle.decode.proofs.test_of.Lts as lts
 
--- src/lib.rt:60:1
 returns : tie.Need-returns
 unfolding testOf
 returns c = rw (c .match .keys1)
 
--- src/lib.rt:60:1
 returns-2 : tie.Need-returns-2
 unfolding testOf
 returns-2 c = rw (c .match .keys2)
 
--- src/lib.rt:60:1
 returns-3 : tie.Need-returns-3
 unfolding testOf
 returns-3 c = rw (c .match .keys3)
 
--- src/lib.rt:60:1
 returns-4 : tie.Need-returns-4
 unfolding testOf
 returns-4 c = sym (List·getD-eq-default testKinds test.None {n = c .before .args .kind} (omega arith))
