@@ -2,13 +2,13 @@
 use mathlib.Core.Path.{_≡_, refl, sym, ap, ap₂, _∙_}
 use mathlib.Core.List.{List, [], _∷_, _++_, append-assoc}
 use Prim.Native.Nat.{ℕ, zero, suc, _+_, _*_, _/_, _%_, _^_, _<_, _≤_}
-use native.Mathlib.Nat.{pow-suc, mul-comm, mul-assoc, suc-add, div-div-eq-div-mul, div-one, zero-add, one-le-pow, mod-eq-of-lt, mod-lt}
+use native.Mathlib.Nat.{pow-suc, mul-comm, mul-assoc, suc-add, div-div-eq-div-mul, div-one, zero-add, one-le-pow, mod-eq-of-lt, mod-lt, add-zero}
 use native.Mathlib.Numerals.{add-one}
 use native.Mathlib.Omega.{arith}
 use lib.Arith.{mod-mul}
 use lib.Dec.{lit<}
-use lib.ListN.{length, take, drop, getD, set, length-append, length-drop}
-use lib.Seq.{drop-cons, take-add, drop-drop, take-at, drop-at, length-take-le, set-split}
+use lib.ListN.{length, take, drop, getD, set, length-append, length-drop, take-append-drop}
+use lib.Seq.{drop-cons, take-add, drop-drop, take-at, drop-at, length-take-le, set-split, take-suc}
 use Rattle.le.specs.Le.{numberOf, bytesOf, part, written, Bytes}
 
 -- Lists of bytes.
@@ -205,3 +205,16 @@ pub put-pair : (d : List ℕ) (at v : ℕ) → at ≤ length d → v < 65536 →
 put-pair d at v h l =
     ap₂ (λ (x y : List ℕ). written (written d at x) (at + 1) y) (sym (bytes-one (v % 256) (omega arith))) (sym (bytes-one (v / 256) (omega arith)))
     ∙ put-two 1 1 d at v h
+
+-- nothing written
+pub written-none : (d : List ℕ) (at : ℕ) → d ≡ written d at []
+written-none d at = sym (ap (λ (n : ℕ). take at d ++ drop n d) (add-zero at) ∙ take-append-drop at d)
+
+-- one element more of a list written behind its first i
+pub written-more : (d out text : List ℕ) (at i : ℕ) → at + i < length d → i < length text → length out ≡ length d → out ≡ written d at (take i text)
+    → set out (at + i) (getD text i 0) ≡ written d at (take (i + 1) text)
+written-more d out text at i h k l e =
+    put-one out (at + i) (getD text i 0) (omega arith)
+    ∙ ap (λ (x : List ℕ). written x (at + i) (getD text i 0 ∷ [])) e
+    ∙ written-two d at (take i text) (getD text i 0 ∷ []) (at + i) (omega arith) (ap (λ (n : ℕ). at + n) (sym (length-take-le i text (omega arith))))
+    ∙ ap (written d at) (sym (ap (λ (n : ℕ). take n text) (add-one i) ∙ take-suc text i 0 k))
