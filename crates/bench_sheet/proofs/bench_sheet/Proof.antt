@@ -1,3 +1,6 @@
+-- `bench_sheet`: each line is computed.
+use mathlib.Core.List.{flatMap}
+use mathlib.Core.Path.{refl}
 use Rattle.validation.specs.Sound.{stepOk, validAnswer, workoutAnswer}
 use Rattle.form.specs.Form.{formOk, stepSlots, blockSlots, isNoStep}
 use Rattle.order.specs.Order.{run, runs, blockAt, order, playedLen}
@@ -6,14 +9,9 @@ use Rattle.model.specs.Target.{bandOf, capped}
 use Rattle.zones.specs.Zones.{percentOf, heartZone, heartRange}
 use Rattle.names.specs.Names.{nameOk}
 use Rattle.common.specs.Lists.{all, range, sum}
-use mathlib.Core.List.{flatMap}
-use mathlib.Core.Path.{refl}
 use Rattle.bench_sheet.proofs.bench_sheet.Statement.{statement}
 use Rattle.bench_sheet.proofs.bench_sheet.Tie as tie
-use Rattle.bench_sheet.proofs.bench_sheet.Reads as reads
-use Rattle.bench_sheet.proofs.bench_sheet.Lts as lts
 
--- src/lib.rt:4:1
 returns : tie.Need-returns
 unfolding all range sum flatMap nameOk percentOf heartZone heartRange bandOf capped blocksSound allApart repeats run runs blockAt order playedLen formOk stepSlots blockSlots isNoStep stepOk validAnswer workoutAnswer
 returns c = record { order = refl; by-8 = (refl, refl); by-9 = refl; ftp = refl; heart = (refl, refl); zone-1 = refl }
