@@ -1,12 +1,12 @@
 -- What the cursor's calls say of the list of bytes behind its place, and how a name is read from there.
 use mathlib.Core.Path.{_≡_, refl, sym, ap, ap₂, _∙_}
 use mathlib.Core.Bool.{Bool, true, false, cond}
-use mathlib.Core.List.{List, [], _∷_}
-use Prim.Native.Nat.{ℕ, zero, suc, _+_, _-_, _≤_, _<_}
+use mathlib.Core.List.{List}
+use Prim.Native.Nat.{ℕ, _+_, _≤_, _<_}
 use native.Mathlib.Nat.{add-zero}
 use native.Mathlib.Omega.{arith}
 use lib.Dec.{leb, ltb}
-use lib.ListN.{length, getD, take, drop, length-drop, drop-of-length-le}
+use lib.ListN.{length, getD, take, drop, drop-of-length-le}
 use lib.Seq.{drop-cons, drop-drop, length-take-le}
 use borrow.Author.Tests.{le-leb, lt-leb, leb-true, leb-false, ltb-true, ltb-false}
 use Rattle.common.specs.Lists.{all, padded}
@@ -17,10 +17,8 @@ use Rattle.names.specs.Names.{allowed}
 use Rattle.cursor.specs.Reading.{Read, got, refused, behind, andThen, takeBytes, readByte}
 use Rattle.cursor.specs.Names.{nameOf, readText, readName, takenBy, takenAt, byteBy, byteAt, nameBy, nameAt}
 use Rattle.cursor.specs.declared.Cursor.{Cursor}
-use Rattle.cursor.specs.declared.Taken.{Taken}
 use Rattle.cursor.specs.declared.Taken.the-variants as taken
 use Rattle.cursor.specs.declared.NameRead.{NameRead}
-use Rattle.cursor.specs.declared.NextByte.{NextByte}
 use Rattle.cursor.specs.declared.NextByte.the-variants as next
 
 -- a name that was read, and the cursor past it

@@ -1,12 +1,11 @@
 -- Reading n values in a row into an array, one at a time: one law over the element and its reader.
 use mathlib.Core.Path.{_≡_, refl, sym, ap, ap₂, _∙_}
 use mathlib.Core.List.{List, [], _∷_, _++_, append-assoc, append-nil}
-use Prim.Native.Nat.{ℕ, zero, suc, _+_, _-_, _≤_, _<_}
-use native.Mathlib.Nat.{add-zero, zero-add, add-assoc}
+use Prim.Native.Nat.{ℕ, suc, _+_, _-_, _≤_, _<_}
+use native.Mathlib.Nat.{add-zero, zero-add}
 use native.Mathlib.Omega.{arith}
 use lib.ListN.{length, drop, set, replicate, length-append}
 use lib.Seq.{drop-drop}
-use Rattle.common.specs.Lists.{padded}
 use Rattle.common.proofs.Lists.{fill}
 use Rattle.refusal.specs.declared.Refusal.{Refusal}
 use Rattle.cursor.specs.Reading.{Read, got, refused, behind, andThen, readMany}

@@ -1,16 +1,13 @@
 -- A name in a file, and what the calls of the cursor answer.
-use mathlib.Core.Bool.{Bool, true, false, cond}
-use mathlib.Core.List.{List, [], _∷_}
+use mathlib.Core.List.{List, _∷_}
 use Prim.Native.Nat.{ℕ, _+_}
 use lib.Dec.{leb}
 use lib.ListN.{length, drop}
 use Rattle.common.specs.Lists.{all, padded}
-use Rattle.refusal.specs.declared.Answer.{Answer}
 use Rattle.refusal.specs.declared.Answer.the-variants.{Accepted, Refused}
 use Rattle.names.specs.declared.Name.{Name}
 use Rattle.names.specs.Names.{allowed, asBytes, emptyName}
 use Rattle.cursor.specs.Reading.{Read, got, refused, allow, andThen, takeBytes, readByte}
-use Rattle.cursor.specs.declared.Cursor.{Cursor}
 use Rattle.cursor.specs.declared.Taken.{Taken}
 use Rattle.cursor.specs.declared.Taken.the-variants as taken
 use Rattle.cursor.specs.declared.NextByte.{NextByte}

@@ -1,14 +1,16 @@
 -- Document 01's question 5 of a workout in memory.
+use mathlib.Core.Path.{_≡_}
 use mathlib.Core.Bool.{Bool, true, false, cond, _&&_}
 use mathlib.Core.List.{List}
 use Prim.Native.Nat.{ℕ}
 use lib.Dec.{ltb, leb, eqb}
-use lib.ListN.{take, drop}
+use lib.ListN.{length, take, drop, replicate}
 use Rattle.common.specs.Lists.{all}
 use Rattle.names.specs.Names.{nameOk, isBlank}
 use Rattle.model.specs.declared.Step.{Step}
 use Rattle.model.specs.declared.Block.{Block}
 use Rattle.model.specs.declared.Workout.{Workout}
+use Rattle.model.specs.Workout.{noStep, noBlock}
 use Rattle.model.specs.declared.Intensity.{Intensity}
 use Rattle.model.specs.declared.Intensity.the-variants.{Warmup, Work, Recovery, Cooldown, Test}
 use Rattle.model.specs.declared.Length.{Length}
@@ -69,3 +71,16 @@ stepSlot count at s = cond (ltb at count) (noteOk s) (isNoStep s)
 
 abbrev pub blockSlot : ℕ → ℕ → Block → Bool
 blockSlot count at b = cond (ltb at count) true (isNoBlock b)
+
+-- The note is an array of 20 bytes.
+abbrev pub noteSized : Step → Bool
+noteSized s = eqb (length (s .note .bytes)) 20
+
+-- What an unused place holds is `NO_STEP`, `NO_BLOCK`: the tests pass these and nothing else.
+pub record UnusedPlaces : Type 0 where
+  pub no-step : isNoStep noStep ≡ true
+  pub no-block : isNoBlock noBlock ≡ true
+  pub step : (s : Step) → length (s .note .bytes) ≡ 20 → isNoStep s ≡ true → s ≡ noStep
+  pub block : (b : Block) → isNoBlock b ≡ true → b ≡ noBlock
+  pub steps : (xs : List Step) → all noteSized xs ≡ true → all isNoStep xs ≡ true → xs ≡ replicate (length xs) noStep
+  pub blocks : (xs : List Block) → all isNoBlock xs ≡ true → xs ≡ replicate (length xs) noBlock

@@ -1,6 +1,6 @@
 // Question 5 of document 01 for a workout in memory: names, counts and unused places.
 ghost use mathlib.Core.Path.{_≡_};
-ghost use Rattle.form.specs.Form.{isWork, isOpen, isFree, isNoStep, isNoBlock, stepSlot, blockSlot, stepSlots, blockSlots, formOk};
+ghost use Rattle.form.specs.Form.{isWork, isOpen, isFree, isNoStep, isNoBlock, stepSlot, blockSlot, stepSlots, blockSlots, formOk, UnusedPlaces};
 use model::Block;
 use model::Intensity;
 use model::Length;
@@ -128,3 +128,9 @@ pub fn well_formed(workout: Workout) -> bool
         & step_slots(steps, workout.step_count)
         & block_slots(blocks, workout.block_count)
 }
+
+// What an unused place holds is NO_STEP, NO_BLOCK: the tests pass these and nothing else. It does nothing: its contract is
+// the statement.
+pub fn unused_places()
+    ensures { λ _. ⌜ UnusedPlaces ⌝ }
+{}

@@ -1,5 +1,4 @@
 -- model.rs: what a target asks of a rider under a profile, some seconds into its step.
-use mathlib.Core.Bool.{Bool, true, false, cond}
 use Prim.Native.Nat.{ℕ, _+_, _-_, _*_, _/_, _%_, min, max}
 use Rattle.zones.specs.declared.TrainingProfile.{TrainingProfile}
 use Rattle.zones.specs.Zones.{percentOf, heartRange}

@@ -1,6 +1,5 @@
 -- model.rs: the parts of a workout that are used, and what stands in the places that are not.
 use mathlib.Core.List.{List}
-use Prim.Native.Nat.{ℕ}
 use lib.ListN.{take, replicate}
 use Rattle.names.specs.Names.{emptyName}
 use Rattle.model.specs.declared.Step.{Step}

@@ -1,6 +1,6 @@
 -- Document 01, 'Workout file': a step. "intensity 0 to 4 (`Warmup`, `Work`, `Recovery`, `Cooldown`, `Test`); length kind (0 `Time`,
 -- 1 `Distance`, 2 `Open`) and 4-byte value; target kind and three 2-byte values; a zero byte; its note, a name."
-use mathlib.Core.Bool.{Bool, true, false, cond, _&&_}
+use mathlib.Core.Bool.{cond}
 use mathlib.Core.List.{List, [], _∷_}
 use Prim.Native.Nat.{ℕ, _+_}
 use lib.Dec.{ltb, eqb}

@@ -1,8 +1,8 @@
 -- Document 01's questions 6 to 9, which are model.rs's `validate`.
-use mathlib.Core.Bool.{Bool, true, false, cond, _&&_}
+use mathlib.Core.Bool.{Bool, true, cond, _&&_}
 use mathlib.Core.List.{List}
-use Prim.Native.Nat.{ℕ, _+_}
-use lib.Dec.{ltb, leb, eqb}
+use Prim.Native.Nat.{ℕ}
+use lib.Dec.{ltb, leb}
 use lib.ListN.{length}
 use Rattle.common.specs.Lists.{all}
 use Rattle.form.specs.Form.{isOpen, formOk}

@@ -1,17 +1,15 @@
+-- `all_allowed`: what has been found, and the bytes from i on, give the answer of all bytes.
+use mathlib.Core.Bool.{Bool, _&&_}
+use mathlib.Core.Path.{_≡_, sym, ap, _∙_, refl}
+use Prim.Native.Nat.{_+_, _-_, _≤_}
+use native.Mathlib.Omega.{arith}
+use lib.ListN.{length, take, drop, length-take, length-drop}
+use denote.Ref.{now}
 use Rattle.names.specs.Names.{allowed}
 use Rattle.common.proofs.Lists.{all-step, all-end, getD-part}
 use Rattle.common.specs.Lists.{all}
-use denote.Ref.{now}
-use lib.ListN.{length, take, drop, length-take, length-drop}
-use native.Mathlib.Omega.{arith}
-use Prim.Native.Nat.{ℕ, _+_, _-_, _≤_}
-use mathlib.Core.Bool.{Bool, _&&_}
-use mathlib.Core.Path.{_≡_, sym, ap, _∙_, refl}
 use Rattle.cursor.proofs.all_allowed.Statement.{statement}
 use Rattle.cursor.proofs.all_allowed.Tie as tie
-use Rattle.cursor.proofs.all_allowed.Reads as reads
-use Rattle.cursor.proofs.all_allowed.Lts as lts
-use Rattle.names.proofs.allowed_byte.Reads as allowed-byte-reads
 
 abbrev Inv-loop : tie.InvT-loop
 Inv-loop bytes from n ok₀ i₀ ok i = (i ≤ n) × ((ok && all allowed (drop i (take n (drop from bytes)))) ≡ all allowed (take n (drop from bytes)))
@@ -19,31 +17,24 @@ Inv-loop bytes from n ok₀ i₀ ok i = (i ≤ n) × ((ok && all allowed (drop i
 abbrev μ-loop : tie.MeasureT-loop
 μ-loop bytes from n ok₀ i₀ ok i = n - i
 
--- src/lib.rt:74:5
 loop-holds : tie.Need-loop-holds Inv-loop μ-loop
 loop-holds c = (omega arith, refl)
 
--- src/lib.rt:75:38
 add-allowed-byte : tie.Need-add-allowed-byte Inv-loop μ-loop
 add-allowed-byte c = omega arith
 
--- src/lib.rt:75:32
 shared-slice-read-allowed-byte : tie.Need-shared-slice-read-allowed-byte Inv-loop μ-loop
 shared-slice-read-allowed-byte c = omega arith
 
--- src/lib.rt:75:19
 allowed-byte-requires : tie.Need-allowed-byte-requires Inv-loop μ-loop
 allowed-byte-requires c κs = tt
 
--- src/lib.rt:76:9
 add-i : tie.Need-add-i Inv-loop μ-loop
 add-i c = omega arith
 
--- src/lib.rt:74:5
 loop-less : tie.Need-loop-less Inv-loop μ-loop
 loop-less c = omega arith
 
--- src/lib.rt:74:5
 loop-again : tie.Need-loop-again Inv-loop μ-loop
 loop-again c = let l = c .before .before .before .loop in
     let a = c .before .before .before .before .before .args in
@@ -55,7 +46,6 @@ loop-again c = let l = c .before .before .before .loop in
           ∙ all-step allowed (l .ok) text (l .i) 0 (omega arith) ∙ l .inv .1,
     )
 
--- src/lib.rt:68:1
 returns : tie.Need-returns Inv-loop μ-loop
 returns c = let l = c .before .loop in
     let a = c .before .before .before .args in

@@ -1,14 +1,13 @@
-use Rattle.common.proofs.Lists.{fill-part}
-use denote.Ref.{now}
-use lib.ListN.{length, take, drop, replicate, length-take, length-drop}
-use native.Mathlib.Omega.{arith}
-use Prim.Native.Nat.{ℕ, _+_, _-_, _≤_}
-use mathlib.Core.List.{List, _++_}
+-- `copied`: the places below i hold the part's first i bytes, the others 0.
+use mathlib.Core.List.{_++_}
 use mathlib.Core.Path.{_≡_, sym, ap, _∙_, refl}
+use Prim.Native.Nat.{ℕ, _-_, _≤_}
+use native.Mathlib.Omega.{arith}
+use lib.ListN.{length, take, drop, replicate, length-take, length-drop}
+use denote.Ref.{now}
+use Rattle.common.proofs.Lists.{fill-part}
 use Rattle.cursor.proofs.copied.Statement.{statement}
 use Rattle.cursor.proofs.copied.Tie as tie
-use Rattle.cursor.proofs.copied.Reads as reads
-use Rattle.cursor.proofs.copied.Lts as lts
 
 abbrev Inv-loop : tie.InvT-loop
 Inv-loop bytes from n text₀ i₀ text i = (i ≤ n) × (text ≡ take i (drop from bytes) ++ replicate (20 - i) 0)
@@ -16,37 +15,29 @@ Inv-loop bytes from n text₀ i₀ text i = (i ≤ n) × (text ≡ take i (drop 
 abbrev μ-loop : tie.MeasureT-loop
 μ-loop bytes from n text₀ i₀ text i = n - i
 
--- src/lib.rt:87:5
 loop-holds : tie.Need-loop-holds Inv-loop μ-loop
 loop-holds c = (omega arith, refl)
 
--- src/lib.rt:88:25
 add-text : tie.Need-add-text Inv-loop μ-loop
 add-text c = omega arith
 
--- src/lib.rt:88:19
 shared-slice-read-text : tie.Need-shared-slice-read-text Inv-loop μ-loop
 shared-slice-read-text c = omega arith
 
--- src/lib.rt:88:9
 array-write-text : tie.Need-array-write-text Inv-loop μ-loop
 array-write-text c = omega arith
 
--- src/lib.rt:89:9
 add-i : tie.Need-add-i Inv-loop μ-loop
 add-i c = omega arith
 
--- src/lib.rt:87:5
 loop-less : tie.Need-loop-less Inv-loop μ-loop
 loop-less c = omega arith
 
--- src/lib.rt:87:5
 loop-again : tie.Need-loop-again Inv-loop μ-loop
 loop-again c = let l = c .before .before .loop in
     let a = c .before .before .before .args in
     (omega arith, rw (l .inv .1) (fill-part 20 (l .i) (a .from) (now (a .bytes)) 0 0 (omega arith) (omega arith)))
 
--- src/lib.rt:81:1
 returns : tie.Need-returns Inv-loop μ-loop
 returns c = let l = c .before .loop in
     let a = c .before .before .args in

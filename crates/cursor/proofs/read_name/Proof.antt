@@ -1,45 +1,32 @@
-use Rattle.cursor.proofs.Laws.{byte-given, taken-given, name-none, name-long, name-short, name-bad, name-read}
-use borrow.Author.Tests.{not-true, not-false}
-use denote.Ref.{now}
-use lib.ListN.{length-drop}
+-- `read_name`: each return is what the reading gives after the bytes handed out so far.
+use mathlib.Core.Path.{sym, _∙_}
 use native.Mathlib.Omega.{arith}
-use mathlib.Core.Path.{_≡_, sym, _∙_}
+use lib.ListN.{length-drop}
+use denote.Ref.{now}
+use borrow.Author.Tests.{not-true, not-false}
 use borrow.Author.Needs.{needs}
+use Rattle.cursor.proofs.Laws.{byte-given, taken-given, name-none, name-long, name-short, name-bad, name-read}
 use Rattle.cursor.proofs.read_name.Statement.{statement}
 use Rattle.cursor.proofs.read_name.Tie as tie
-use Rattle.cursor.proofs.read_name.Reads as reads
-use Rattle.cursor.proofs.read_name.Lts as lts
-use Rattle.cursor.proofs.Cursor.byte.Reads as byte-reads
-use Rattle.cursor.proofs.Cursor.take.Reads as take-reads
-use Rattle.cursor.proofs.all_allowed.Reads as all-allowed-reads
-use Rattle.cursor.proofs.copied.Reads as copied-reads
-use Rattle.cursor.proofs.no_name.Reads as no-name-reads
 
--- src/lib.rt:108:38
 byte-requires : tie.Need-byte-requires
 byte-requires c κs = search needs
 
--- src/lib.rt:108:24
 enum-known-len : tie.Need-enum-known-len
 enum-known-len c = search needs
 
--- src/lib.rt:109:24
 enum-told : tie.Need-enum-told
 enum-told c = search needs
 
--- src/lib.rt:109:9
 no-name-requires : tie.Need-no-name-requires
 no-name-requires c κs = search needs
 
--- src/lib.rt:109:9
 returns : tie.Need-returns
 returns c = let a = c .before .before .before .before .before .args in c .no-name .ensures ∙ name-none (now (a .bytes)) (a .cursor .at) (sym (c .before .before .before .byte .ensures) ∙ c .before .enum-told .given .1)
 
--- src/lib.rt:112:9
 no-name-requires-2 : tie.Need-no-name-requires-2
 no-name-requires-2 c κs = search needs
 
--- src/lib.rt:112:9
 returns-2 : tie.Need-returns-2
 returns-2 c = let a = c .before .before .before .before .before .before .before .args in
     let s = now (a .bytes) in
@@ -47,27 +34,21 @@ returns-2 c = let a = c .before .before .before .before .before .before .before 
     let first = byte-given s at (c .before .before .before .len .given .0 .0) (c .before .before .before .len .given .0 .1 .0) (sym (c .before .before .before .before .before .byte .ensures) ∙ c .before .before .before .len .given .1) in
     c .no-name2 .ensures ∙ name-long s at (c .before .before .before .len .given .0 .0) (c .before .before .before .len .given .0 .1 .0) first (c .before .if1 .taken)
 
--- src/lib.rt:114:13
 cast-n : tie.Need-cast-n
 cast-n c = search needs
 
--- src/lib.rt:115:36
 take-requires : tie.Need-take-requires
 take-requires c κs = search needs
 
--- src/lib.rt:115:22
 enum-known-from : tie.Need-enum-known-from
 enum-known-from c = search needs
 
--- src/lib.rt:116:24
 enum-told-2 : tie.Need-enum-told-2
 enum-told-2 c = search needs
 
--- src/lib.rt:116:9
 no-name-requires-3 : tie.Need-no-name-requires-3
 no-name-requires-3 c κs = search needs
 
--- src/lib.rt:116:9
 returns-3 : tie.Need-returns-3
 returns-3 c = let a = c .before .before .before .before .before .before .before .before .before .before .args in
     let s = now (a .bytes) in
@@ -75,7 +56,6 @@ returns-3 c = let a = c .before .before .before .before .before .before .before 
     let first = byte-given s at (c .before .before .before .before .before .before .len .given .0 .0) (c .before .before .before .before .before .before .len .given .0 .1 .0) (sym (c .before .before .before .before .before .before .before .before .byte .ensures) ∙ c .before .before .before .before .before .before .len .given .1) in
     c .no-name3 .ensures ∙ name-short s at (c .before .before .before .before .before .before .len .given .0 .0) (c .before .before .before .before .before .before .len .given .0 .1 .0) first (c .before .before .before .before .if1 .left) (sym (c .before .before .before .take .ensures) ∙ c .before .enum-told2 .given .1)
 
--- src/lib.rt:118:9
 all-allowed-requires : tie.Need-all-allowed-requires
 all-allowed-requires c κs = let a = c .before .before .before .before .before .before .before .before .before .before .args in
     let s = now (a .bytes) in
@@ -86,11 +66,9 @@ all-allowed-requires c κs = let a = c .before .before .before .before .before .
     let text = taken-given s (after .at) len (c .before .from .given .0 .0) (c .before .from .given .0 .1 .0) (sym (c .before .before .before .take .ensures) ∙ c .before .from .given .1) in
     omega (arith, text .within, text .place, length-drop (after .at) s)
 
--- src/lib.rt:119:9
 no-name-requires-4 : tie.Need-no-name-requires-4
 no-name-requires-4 c κs = search needs
 
--- src/lib.rt:119:9
 returns-4 : tie.Need-returns-4
 returns-4 c = let a = c .before .before .before .before .before .before .before .before .before .before .before .before .before .args in
     let s = now (a .bytes) in
@@ -101,7 +79,6 @@ returns-4 c = let a = c .before .before .before .before .before .before .before 
     let text = taken-given s (after .at) len (c .before .before .before .before .from .given .0 .0) (c .before .before .before .before .from .given .0 .1 .0) (sym (c .before .before .before .before .before .before .take .ensures) ∙ c .before .before .before .before .from .given .1) in
     c .no-name4 .ensures ∙ name-bad s at len after first (c .before .before .before .before .before .before .before .if1 .left) (c .before .before .before .before .from .given .0 .0) (c .before .before .before .before .from .given .0 .1 .0) text (sym (c .before .before .all-allowed .ensures) ∙ not-true _ (c .before .if2 .taken))
 
--- src/lib.rt:121:9
 copied-requires : tie.Need-copied-requires
 copied-requires c κs = let a = c .before .before .before .before .before .before .before .before .before .before .before .before .args in
     let s = now (a .bytes) in
@@ -112,7 +89,6 @@ copied-requires c κs = let a = c .before .before .before .before .before .befor
     let text = taken-given s (after .at) len (c .before .before .before .from .given .0 .0) (c .before .before .before .from .given .0 .1 .0) (sym (c .before .before .before .before .before .take .ensures) ∙ c .before .before .before .from .given .1) in
     omega (arith, text .within, text .place, length-drop (after .at) s)
 
--- src/lib.rt:105:1
 returns-5 : tie.Need-returns-5
 returns-5 c = let a = c .before .before .before .before .before .before .before .before .before .before .before .before .before .args in
     let s = now (a .bytes) in

@@ -1,75 +1,55 @@
-use Rattle.steps.proofs.Laws.{fixed-place}
-use Rattle.steps.specs.Steps.{lengthOf, targetOf}
-use Rattle.le.specs.Le.{numberOf, part}
-use borrow.Author.Tests.{eq-eqb, ne-eqb}
-use denote.Ref.{now}
-use lib.ListN.{getD}
+-- `fixed_at`: the bytes at their places are those of the definition, and each return is its case.
+use mathlib.Core.Path.{sym, ap, _∙_}
 use Prim.Native.Nat.{ℕ, _+_}
-use mathlib.Core.Path.{_≡_, sym, ap, _∙_}
-use native.Mathlib.Omega.{arith}
+use lib.ListN.{getD}
+use denote.Ref.{now}
+use borrow.Author.Tests.{eq-eqb, ne-eqb}
 use borrow.Author.Needs.{needs}
+use Rattle.le.specs.Le.{numberOf, part}
+use Rattle.steps.specs.Steps.{lengthOf, targetOf}
+use Rattle.steps.proofs.Laws.{fixed-place}
 use Rattle.steps.proofs.fixed_at.Statement.{statement}
 use Rattle.steps.proofs.fixed_at.Tie as tie
-use Rattle.steps.proofs.fixed_at.Reads as reads
-use Rattle.steps.proofs.fixed_at.Lts as lts
-use Rattle.le.proofs.get_u16.Reads as get-u16-reads
-use Rattle.le.proofs.get_u32.Reads as get-u32-reads
-use Rattle.steps.proofs.intensity_of.Reads as intensity-of-reads
-use Rattle.steps.proofs.length_of.Reads as length-of-reads
-use Rattle.steps.proofs.target_of.Reads as target-of-reads
 
--- src/lib.rt:155:57
 shared-slice-read-intensity-of : tie.Need-shared-slice-read-intensity-of
 shared-slice-read-intensity-of c = search needs
 
--- src/lib.rt:155:44
 intensity-of-requires : tie.Need-intensity-of-requires
 intensity-of-requires c κs = search needs
 
--- src/lib.rt:155:31
 enum-known-intensity : tie.Need-enum-known-intensity
 enum-known-intensity c = search needs
 
--- src/lib.rt:156:9
 enum-told : tie.Need-enum-told
 enum-told c = search needs
 
--- src/lib.rt:156:9
 returns : tie.Need-returns
 returns c = let a = c .before .before .before .before .before .args in
     let s = now (a .bytes) in
     let at = a .at in
     rw (fixed-place s at) (simp (sym (c .before .before .intensity-of .ensures) ∙ c .enum-told .given .1))
 
--- src/lib.rt:158:36
 add-get-u32 : tie.Need-add-get-u32
 add-get-u32 c = search needs
 
--- src/lib.rt:158:9
 get-u32-requires : tie.Need-get-u32-requires
 get-u32-requires c κs = search needs
 
--- src/lib.rt:159:54
 add-length-of : tie.Need-add-length-of
 add-length-of c = search needs
 
--- src/lib.rt:159:48
 shared-slice-read-length-of : tie.Need-shared-slice-read-length-of
 shared-slice-read-length-of c = search needs
 
--- src/lib.rt:159:38
 length-of-requires : tie.Need-length-of-requires
 length-of-requires c κs = search needs
 
--- src/lib.rt:159:28
 enum-known-length : tie.Need-enum-known-length
 enum-known-length c = search needs
 
--- src/lib.rt:160:9
 enum-told-2 : tie.Need-enum-told-2
 enum-told-2 c = search needs
 
--- src/lib.rt:160:9
 returns-2 : tie.Need-returns-2
 returns-2 c = let a = c .before .before .before .before .before .before .before .before .before .before .before .args in
     let s = now (a .bytes) in
@@ -79,51 +59,39 @@ returns-2 c = let a = c .before .before .before .before .before .before .before 
       ap (lengthOf (getD s (at + 1) 0)) (sym (c .before .before .before .before .get-u32 .ensures)) ∙ sym (c .before .before .length-of .ensures) ∙ c .enum-told2 .given .1,
     ))
 
--- src/lib.rt:162:32
 add-get-u16 : tie.Need-add-get-u16
 add-get-u16 c = search needs
 
--- src/lib.rt:162:9
 get-u16-requires : tie.Need-get-u16-requires
 get-u16-requires c κs = search needs
 
--- src/lib.rt:163:32
 add-get-u16-2 : tie.Need-add-get-u16-2
 add-get-u16-2 c = search needs
 
--- src/lib.rt:163:9
 get-u16-requires-2 : tie.Need-get-u16-requires-2
 get-u16-requires-2 c κs = search needs
 
--- src/lib.rt:164:32
 add-get-u16-3 : tie.Need-add-get-u16-3
 add-get-u16-3 c = search needs
 
--- src/lib.rt:164:9
 get-u16-requires-3 : tie.Need-get-u16-requires-3
 get-u16-requires-3 c κs = search needs
 
--- src/lib.rt:165:54
 add-target-of : tie.Need-add-target-of
 add-target-of c = search needs
 
--- src/lib.rt:165:48
 shared-slice-read-target-of : tie.Need-shared-slice-read-target-of
 shared-slice-read-target-of c = search needs
 
--- src/lib.rt:165:38
 target-of-requires : tie.Need-target-of-requires
 target-of-requires c κs = search needs
 
--- src/lib.rt:165:28
 enum-known-target : tie.Need-enum-known-target
 enum-known-target c = search needs
 
--- src/lib.rt:166:9
 enum-told-3 : tie.Need-enum-told-3
 enum-told-3 c = search needs
 
--- src/lib.rt:166:9
 returns-3 : tie.Need-returns-3
 returns-3 c = let a = c .before .before .before .before .before .before .before .before .before .before .before .before .before .before .before .before .before .before .before .args in
     let s = now (a .bytes) in
@@ -137,15 +105,12 @@ returns-3 c = let a = c .before .before .before .before .before .before .before 
           ∙ sym (c .before .before .target-of .ensures) ∙ c .enum-told3 .given .1),
     ))
 
--- src/lib.rt:168:14
 add-if1 : tie.Need-add-if1
 add-if1 c = search needs
 
--- src/lib.rt:168:8
 shared-slice-read-if1 : tie.Need-shared-slice-read-if1
 shared-slice-read-if1 c = search needs
 
--- src/lib.rt:169:9
 returns-4 : tie.Need-returns-4
 returns-4 c = let a = c .before .before .before .before .before .before .before .before .before .before .before .before .before .before .before .before .before .before .before .before .before .before .args in
     let s = now (a .bytes) in
@@ -160,7 +125,6 @@ returns-4 c = let a = c .before .before .before .before .before .before .before 
       ne-eqb _ _ (c .if1 .taken),
     ))
 
--- src/lib.rt:151:1
 returns-5 : tie.Need-returns-5
 returns-5 c = let a = c .before .before .before .before .before .before .before .before .before .before .before .before .before .before .before .before .before .before .before .before .before .before .args in
     let s = now (a .bytes) in

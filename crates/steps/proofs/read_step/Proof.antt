@@ -1,44 +1,31 @@
-use Rattle.steps.proofs.Laws.{readAs, step-end, step-bad, step-refused, step-read}
-use Rattle.steps.specs.Steps.{stepOf}
+-- `read_step`: each return is what the reading gives after the bytes handed out so far.
+use mathlib.Core.Path.{sym, ap, _∙_}
+use native.Mathlib.Omega.{arith}
+use lib.ListN.{length-drop}
+use denote.Ref.{now}
+use borrow.Author.Needs.{needs}
 use Rattle.cursor.proofs.Laws.{taken-given}
 use Rattle.cursor.specs.declared.NameRead.{NameRead}
-use Rattle.cursor.specs.Names.{nameAt}
-use Rattle.refusal.specs.declared.Answer.{Answer}
-use denote.Ref.{now}
-use lib.ListN.{length-drop}
-use native.Mathlib.Omega.{arith}
-use mathlib.Core.Path.{_≡_, sym, ap, _∙_}
-use borrow.Author.Needs.{needs}
+use Rattle.steps.specs.Steps.{stepOf}
+use Rattle.steps.proofs.Laws.{readAs, step-end, step-bad, step-refused, step-read}
 use Rattle.steps.proofs.read_step.Statement.{statement}
 use Rattle.steps.proofs.read_step.Tie as tie
-use Rattle.steps.proofs.read_step.Reads as reads
-use Rattle.steps.proofs.read_step.Lts as lts
-use Rattle.cursor.proofs.Cursor.take.Reads as take-reads
-use Rattle.cursor.proofs.read_name.Reads as read-name-reads
-use Rattle.steps.proofs.fixed_at.Reads as fixed-at-reads
-use Rattle.steps.proofs.no_step.Reads as no-step-reads
 
--- src/lib.rt:187:33
 take-requires : tie.Need-take-requires
 take-requires c κs = search needs
 
--- src/lib.rt:187:22
 enum-known-from : tie.Need-enum-known-from
 enum-known-from c = search needs
 
--- src/lib.rt:188:24
 enum-told : tie.Need-enum-told
 enum-told c = search needs
 
--- src/lib.rt:188:9
 no-step-requires : tie.Need-no-step-requires
 no-step-requires c κs = search needs
 
--- src/lib.rt:188:9
 returns : tie.Need-returns
 returns c = let a = c .before .before .before .before .before .args in c .no-step .ensures ∙ step-end (now (a .bytes)) (a .cursor .at) (sym (c .before .before .before .take .ensures) ∙ c .before .enum-told .given .1)
 
--- src/lib.rt:190:50
 fixed-at-requires : tie.Need-fixed-at-requires
 fixed-at-requires c κs = let a = c .before .before .before .before .before .args in
     let s = now (a .bytes) in
@@ -48,19 +35,15 @@ fixed-at-requires c κs = let a = c .before .before .before .before .before .arg
     let there = taken-given s at 15 from past (sym (c .before .before .before .take .ensures) ∙ c .before .from .given .1) in
     omega (arith, there .within, there .place, length-drop at s)
 
--- src/lib.rt:190:21
 enum-known-intensity : tie.Need-enum-known-intensity
 enum-known-intensity c = search needs
 
--- src/lib.rt:191:24
 enum-told-2 : tie.Need-enum-told-2
 enum-told-2 c = search needs
 
--- src/lib.rt:191:9
 no-step-requires-2 : tie.Need-no-step-requires-2
 no-step-requires-2 c κs = search needs
 
--- src/lib.rt:191:9
 returns-2 : tie.Need-returns-2
 returns-2 c = let a = c .before .before .before .before .before .before .before .before .before .args in
     let s = now (a .bytes) in
@@ -70,7 +53,6 @@ returns-2 c = let a = c .before .before .before .before .before .before .before 
     let there = taken-given s at 15 from past (sym (c .before .before .before .before .before .before .before .take .ensures) ∙ c .before .before .before .before .before .from .given .1) in
     c .no-step2 .ensures ∙ step-bad s at from past there (sym (c .before .before .before .fixed-at .ensures) ∙ c .before .enum-told2 .given .1)
 
--- src/lib.rt:193:54
 add-t16 : tie.Need-add-t16
 add-t16 c = let a = c .before .before .before .before .before .before .before .before .before .args in
     let s = now (a .bytes) in
@@ -80,23 +62,18 @@ add-t16 c = let a = c .before .before .before .before .before .before .before .b
     let there = taken-given s at 15 from past (sym (c .before .before .before .before .before .before .before .take .ensures) ∙ c .before .before .before .before .before .from .given .1) in
     omega (arith, there .within, there .place, length-drop at s)
 
--- src/lib.rt:193:9
 read-name-requires : tie.Need-read-name-requires
 read-name-requires c κs = search needs
 
--- src/lib.rt:198:25
 enum-known-answer : tie.Need-enum-known-answer
 enum-known-answer c = search needs
 
--- src/lib.rt:198:37
 no-step-requires-3 : tie.Need-no-step-requires-3
 no-step-requires-3 c κs = search needs
 
--- src/lib.rt:200:21
 enum-told-3 : tie.Need-enum-told-3
 enum-told-3 c = search needs
 
--- src/lib.rt:184:1
 returns-3 : tie.Need-returns-3
 returns-3 c = let a = c .before .before .before .before .before .before .before .before .before .before .before .before .before .before .before .before .args in
     let s = now (a .bytes) in
@@ -107,7 +84,6 @@ returns-3 c = let a = c .before .before .before .before .before .before .before 
     let f = sym (c .before .before .before .before .before .before .before .before .before .before .fixed-at .ensures) ∙ c .before .before .before .before .before .before .before .before .intensity .given .1 in
     c .no-step3 .ensures ∙ step-refused s at from past there (c .before .before .before .before .before .before .before .before .intensity .given .0 .0) (c .before .before .before .before .before .before .before .before .intensity .given .0 .1 .0) (c .before .before .before .before .before .before .before .before .intensity .given .0 .1 .1 .0) f (c .before .before .answer .given .0 .0) (ap (λ (n : NameRead). n .answer) (sym (c .before .before .before .before .before .before .read-name .ensures)) ∙ c .before .before .answer .given .1)
 
--- src/lib.rt:184:1
 returns-4 : tie.Need-returns-4
 returns-4 c = let a = c .before .before .before .before .before .before .before .before .before .before .before .before .before .before .args in
     let s = now (a .bytes) in
