@@ -163,3 +163,12 @@ module _ {A : Type 0} where
   padded-rest n xs blank h =
       let left : n - length xs ≡ suc (n - (length xs + 1)) = omega arith in
       drop-append-add xs (replicate (n - length xs) blank) 1 ∙ ap (λ (k : ℕ). drop 1 (replicate k blank)) left
+
+  -- a list whose elements all pass two tests that only one value passes holds that value alone
+  pub all-one : (p q : A → Bool) (value : A) → ((x : A) → p x ≡ true → q x ≡ true → x ≡ value) → (xs : List A) → all p xs ≡ true
+      → all q xs ≡ true → xs ≡ replicate (length xs) value
+  unfolding all
+  all-one p q value f [] h k = refl
+  all-one p q value f (x ∷ xs) h k =
+      ap₂ (λ (y : A) (ys : List A). y ∷ ys) (f x (and-left (p x) (all p xs) h) (and-left (q x) (all q xs) k))
+      (all-one p q value f xs (and-right (p x) (all p xs) h) (and-right (q x) (all q xs) k))

@@ -9,7 +9,8 @@ use Rattle.common.specs.Lists.{all}
 use Rattle.common.proofs.Tests.{and-left, and-right}
 use Rattle.names.specs.declared.Name.{Name}
 use Rattle.names.specs.Names.{isBlank}
-use Rattle.names.proofs.Laws.{blank-empty, all-one}
+use Rattle.names.proofs.Laws.{blank-empty}
+use Rattle.common.proofs.Lists.{all-one}
 use Rattle.model.specs.declared.Step.{Step}
 use Rattle.model.specs.declared.Block.{Block}
 use Rattle.model.specs.declared.Intensity.{Intensity}

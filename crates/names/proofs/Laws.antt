@@ -1,14 +1,14 @@
 -- Laws of names.
 use mathlib.Core.Path.{_≡_, refl, ap, ap₂, _∙_}
-use mathlib.Core.Bool.{Bool, true, _&&_}
-use mathlib.Core.List.{List, [], _∷_, _++_, map}
+use mathlib.Core.Bool.{true, _&&_}
+use mathlib.Core.List.{List, _++_, map}
 use Prim.Native.Nat.{ℕ, zero, suc, _-_, min}
 use native.Mathlib.Omega.{arith}
 use lib.ListN.{length, take, replicate, length-take, length-map}
 use lib.Dec.{eqb, eqb·suc-zero}
 use borrow.Author.Tests.{eqb-true}
 use Rattle.common.specs.Lists.{all}
-use Rattle.common.proofs.Lists.{take-least}
+use Rattle.common.proofs.Lists.{take-least, all-one}
 use Rattle.common.proofs.Tests.{and-left, and-right}
 use Rattle.names.specs.declared.Name.{Name}
 use Rattle.names.specs.Names.{isZero, drawn, emptyName, nameFrom, nameOk, isBlank}
@@ -32,15 +32,6 @@ pub blank-is : (len : ℕ) (bytes : List ℕ) → (eqb len 0 && nameOk (named by
 unfolding nameOk all
 blank-is zero bytes = refl
 blank-is (suc n) bytes = rw (eqb·suc-zero n)
-
--- a list whose elements all pass two tests that only one value passes holds that value alone
-pub all-one : {A : Type 0} (p q : A → Bool) (value : A) → ((x : A) → p x ≡ true → q x ≡ true → x ≡ value) → (xs : List A) → all p xs ≡ true
-    → all q xs ≡ true → xs ≡ replicate (length xs) value
-unfolding all
-all-one p q value f [] h k = refl
-all-one {A} p q value f (x ∷ xs) h k =
-    ap₂ (λ (y : A) (ys : List A). y ∷ ys) (f x (and-left (p x) (all p xs) h) (and-left (q x) (all q xs) k))
-    (all-one p q value f xs (and-right (p x) (all p xs) h) (and-right (q x) (all q xs) k))
 
 -- the blank name of 20 bytes is the empty one
 pub blank-empty : (n : Name) → length (n .bytes) ≡ 20 → isBlank n ≡ true → n ≡ emptyName
