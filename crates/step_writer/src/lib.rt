@@ -133,25 +133,27 @@ fn put_text(out: &mut [u8], at: usize, text: [u8; 20], n: usize)
     }
 }
 
-// A name: its length and its bytes.
-pub fn put_name(out: &mut [u8], at: usize, name: Name)
-    requires { ⌜ (name .len ≤ 20) × (at + (1 + name .len) ≤ length (now out)) ⌝ }
-    ensures { λ _. ⌜ now (out .exit) ≡ written (now (out .entry)) at (nameBytes name) ⌝ }
+// A name: its length and its bytes. The place behind it.
+pub fn put_name(out: &mut [u8], at: usize, name: Name) -> usize
+    requires { ⌜ (name .len ≤ 20) × (at + length (nameBytes name) ≤ length (now out)) ⌝ }
+    ensures { λ r. ⌜ (r ≡ at + length (nameBytes name)) × (now (out .exit) ≡ written (now (out .entry)) at (nameBytes name)) ⌝ }
 {
     let len = name.len;
     let text = name.bytes;
     le::put_u8(out, at, len);
     put_text(out, at + 1, text, len as usize);
+    at + 1 + (len as usize)
 }
 
-pub fn put_step(out: &mut [u8], at: usize, step: Step)
-    requires { ⌜ (step .note .len ≤ 20) × (at + (15 + step .note .len) ≤ length (now out)) ⌝ }
-    ensures { λ _. ⌜ now (out .exit) ≡ written (now (out .entry)) at (stepBytes step) ⌝ }
+// A step: its fixed bytes and its note. The place behind it.
+pub fn put_step(out: &mut [u8], at: usize, step: Step) -> usize
+    requires { ⌜ (step .note .len ≤ 20) × (at + length (stepBytes step) ≤ length (now out)) ⌝ }
+    ensures { λ r. ⌜ (r ≡ at + length (stepBytes step)) × (now (out .exit) ≡ written (now (out .entry)) at (stepBytes step)) ⌝ }
 {
     let intensity = step.intensity;
     let lasts = step.length;
     let target = step.target;
     let note = step.note;
     put_fixed(out, at, intensity, lasts, target);
-    put_name(out, at + 14, note);
+    put_name(out, at + 14, note)
 }
