@@ -20,7 +20,7 @@ use Rattle.cursor.proofs.Laws.{ByteAt, byte-ended}
 use Rattle.decode.specs.declared.TestOption.{TestOption}
 use Rattle.decode.specs.declared.TestOption.the-variants as test
 use Rattle.decode.specs.declared.HeadRead.{HeadRead}
-use Rattle.decode.specs.Decode.{Head, testOf, readCounts, nameThen, readHead, headBy, headAt}
+use Rattle.decode.specs.Decode.{Head, testOf, judgeCounts, readBlockCount, readCounts, nameThen, readHead, headBy, headAt}
 
 abbrev pub headOf : Test → Name → ℕ → ℕ → Head
 headOf t name steps blocks = record { test = t; name = name; steps = steps; blocks = blocks }
@@ -42,21 +42,21 @@ byte-none s at e next = ap (λ (m : Read ℕ). andThen (drop at s) m next) (byte
 module _ (t : Test) (name : Name) (s : List ℕ) (at : ℕ) where
   pub counts-none : byteAt s at ≡ next.End → readCounts t name (drop at s) ≡ refused refusals.Length
   unfolding readCounts
-  counts-none e = byte-none s at e (λ steps rest. andThen rest (readByte rest) (λ blocks _. allow (leb steps 12 && leb blocks 8) (got (headOf t name steps blocks) 0)))
+  counts-none e = byte-none s at e (readBlockCount t name)
 
   module _ (steps : ℕ) (c : Cursor) (first : ByteAt s at steps c) where
     second : readCounts t name (drop at s)
-        ≡ behind 1 (andThen (drop (c .at) s) (readByte (drop (c .at) s)) (λ blocks _. allow (leb steps 12 && leb blocks 8) (got (headOf t name steps blocks) 0)))
+        ≡ behind 1 (readBlockCount t name steps (drop (c .at) s))
     unfolding readCounts
-    second = byte-then s at steps c first (λ n rest. andThen rest (readByte rest) (λ blocks _. allow (leb n 12 && leb blocks 8) (got (headOf t name n blocks) 0)))
+    second = byte-then s at steps c first (readBlockCount t name)
 
     pub counts-one : byteAt s (c .at) ≡ next.End → readCounts t name (drop at s) ≡ refused refusals.Length
-    counts-one e = second ∙ ap (behind 1) (byte-none s (c .at) e (λ blocks _. allow (leb steps 12 && leb blocks 8) (got (headOf t name steps blocks) 0)))
+    counts-one e = second ∙ ap (behind 1) (byte-none s (c .at) e (judgeCounts t name steps))
 
     pub counts-two : (blocks : ℕ) (d : Cursor) → ByteAt s (c .at) blocks d
         → readCounts t name (drop at s) ≡ behind 1 (behind 1 (allow (leb steps 12 && leb blocks 8) (got (headOf t name steps blocks) 0)))
     counts-two blocks d last =
-        second ∙ ap (behind 1) (byte-then s (c .at) blocks d last (λ b _. allow (leb steps 12 && leb b 8) (got (headOf t name steps b) 0)))
+        second ∙ ap (behind 1) (byte-then s (c .at) blocks d last (judgeCounts t name steps))
 
 abbrev pub readAs : Head → ℕ → HeadRead
 readAs h at = record { answer = Accepted; test = h .test; name = h .name; steps = h .steps; blocks = h .blocks; next = record { at = at } }

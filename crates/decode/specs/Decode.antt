@@ -47,12 +47,14 @@ pub record Head : Type 0 where
   pub blocks : ℕ
 
 -- "step count (at most 12), block count (at most 8)"; "(both counts are read before either is judged)"
+abbrev pub judgeCounts : Test → Name → ℕ → ℕ → List ℕ → Read Head
+judgeCounts t name steps blocks _ = allow (leb steps 12 && leb blocks 8) (got (record { test = t; name = name; steps = steps; blocks = blocks }) 0)
+
+abbrev pub readBlockCount : Test → Name → ℕ → List ℕ → Read Head
+readBlockCount t name steps l = andThen l (readByte l) (judgeCounts t name steps)
+
 unfoldable pub readCounts : Test → Name → List ℕ → Read Head
-readCounts t name l =
-    andThen l (readByte l)
-    (λ steps rest.
-    andThen rest (readByte rest)
-    (λ blocks _. allow (leb steps 12 && leb blocks 8) (got (record { test = t; name = name; steps = steps; blocks = blocks }) 0)))
+readCounts t name l = andThen l (readByte l) (readBlockCount t name)
 
 abbrev pub nameThen : TestOption → List ℕ → Read Head
 nameThen (test.Some t) l = andThen l (readName l) (readCounts t)
