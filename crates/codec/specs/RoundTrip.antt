@@ -1,4 +1,4 @@
--- Demand 2: "A workout written and read again is the same". The other direction joins here.
+-- Demand 2: "A workout written and read again is the same". The other direction, a file read and written again, is still to come.
 use mathlib.Core.Path.{_≡_}
 use Prim.Native.Nat.{ℕ, _≤_}
 use lib.ListN.{length}

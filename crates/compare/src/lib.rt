@@ -343,7 +343,7 @@ fn name_word(name: Name, place: u32) -> u32
     if at < 20 { name.bytes[at] as u32 } else { 0 }
 }
 
-// 0, or the number of the question that turned the workout away.
+// 0, or the number of the question that refuses the workout.
 fn refused_number(answer: Answer) -> u32
     ensures { λ r. ⌜ r ≡ answerNumber answer ⌝ }
 {

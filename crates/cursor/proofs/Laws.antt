@@ -11,15 +11,17 @@ use lib.Seq.{drop-cons, drop-drop, length-take-le}
 use borrow.Author.Tests.{le-leb, lt-leb, leb-true, leb-false, ltb-true, ltb-false}
 use Rattle.common.specs.Lists.{all, padded}
 use Rattle.refusal.specs.declared.Refusal.the-variants as refusals
-use Rattle.refusal.specs.declared.Answer.the-variants.{Accepted}
+use Rattle.refusal.specs.declared.Refusal.{Refusal}
+use Rattle.refusal.specs.declared.Answer.the-variants.{Accepted, Refused}
 use Rattle.names.specs.declared.Name.{Name}
 use Rattle.names.specs.Names.{allowed}
-use Rattle.cursor.specs.Reading.{Read, got, refused, behind, andThen, takeBytes, readByte}
+use Rattle.cursor.specs.Reading.{Read, got, refused, behind, enough, andThen, takeBytes, readByte}
 use Rattle.cursor.specs.Names.{nameOf, readText, readName, takenBy, takenAt, byteBy, byteAt, nameBy, nameAt}
 use Rattle.cursor.specs.declared.Cursor.{Cursor}
 use Rattle.cursor.specs.declared.Taken.the-variants as taken
 use Rattle.cursor.specs.declared.NameRead.{NameRead}
 use Rattle.cursor.specs.declared.NextByte.the-variants as next
+use Rattle.cursor.proofs.Answers.{Given, given, refusal}
 
 -- a name that was read, and the cursor past it
 abbrev pub readAs : List ℕ → ℕ → ℕ → NameRead
@@ -33,13 +35,21 @@ pub byte-end : (l : List ℕ) (at : ℕ) → length l ≤ at → readByte (drop 
 unfolding readByte
 byte-end l at h = ap readByte (drop-of-length-le l h)
 
+-- bytes enough, or not: one law over what is read from them
+module _ {A : Type 0} (n : ℕ) (l : List ℕ) (rest : Read A) where
+  pub enough-here : n ≤ length l → enough n l rest ≡ rest
+  enough-here h = ap (λ (t : Bool). cond t rest (refused refusals.Length)) (le-leb n (length l) h)
+
+  pub enough-end : length l < n → enough n l rest ≡ refused refusals.Length
+  enough-end h = ap (λ (t : Bool). cond t rest (refused refusals.Length)) (lt-leb n (length l) h)
+
 pub take-here : (n : ℕ) (l : List ℕ) → n ≤ length l → takeBytes n l ≡ got (take n l) n
 unfolding takeBytes
-take-here n l h = ap (λ (t : Bool). cond t (got (take n l) n) (refused refusals.Length)) (le-leb n (length l) h)
+take-here n l h = enough-here n l (got (take n l) n) h
 
 pub take-end : (n : ℕ) (l : List ℕ) → length l < n → takeBytes n l ≡ refused refusals.Length
 unfolding takeBytes
-take-end n l h = ap (λ (t : Bool). cond t (got (take n l) n) (refused refusals.Length)) (lt-leb n (length l) h)
+take-end n l h = enough-end n l (got (take n l) n) h
 
 -- what a byte handed out says of the bytes at the cursor
 pub record ByteAt (s : List ℕ) (at : ℕ) (b : ℕ) (c : Cursor) : Type 0 where
@@ -104,12 +114,15 @@ module _ (s : List ℕ) (at : ℕ) where
             record { reads = take-here n (drop at s) within; place = place; within = within; after = ap (λ (k : Cursor). k .at) after }
         go false t = let f = taken-end (leb-false n (length (drop at s)) t) in let z : _≡_ {A = ℕ} 0 1 = cc in absurd (omega arith)
 
-    pub taken-ended : takenAt s at n ≡ taken.End → takeBytes n (drop at s) ≡ refused refusals.Length
-    taken-ended e = go (leb n (length (drop at s))) refl
+    pub taken-short : takenAt s at n ≡ taken.End → length (drop at s) < n
+    taken-short e = go (leb n (length (drop at s))) refl
       where
-        go : (t : Bool) → leb n (length (drop at s)) ≡ t → takeBytes n (drop at s) ≡ refused refusals.Length
+        go : (t : Bool) → leb n (length (drop at s)) ≡ t → length (drop at s) < n
         go true t = let f = taken-here (leb-true n (length (drop at s)) t) in let z : _≡_ {A = ℕ} 0 1 = cc in absurd (omega arith)
-        go false t = take-end n (drop at s) (leb-false n (length (drop at s)) t)
+        go false t = leb-false n (length (drop at s)) t
+
+    pub taken-ended : takenAt s at n ≡ taken.End → takeBytes n (drop at s) ≡ refused refusals.Length
+    taken-ended e = take-end n (drop at s) (taken-short e)
 
 module _ (l : List ℕ) where
   pub name-byte : (len n : ℕ) → readByte l ≡ got len n → readName l ≡ behind n (readText len (drop n l))
@@ -176,3 +189,13 @@ module _ (s : List ℕ) (at : ℕ) where
             ap₂ (λ (x : List ℕ) (k : ℕ). readAs x len k) (b ∙ ap (padded 20 0) same) place
             ∙ ap (λ (k : ℕ). readAs (padded 20 0 l) k (at + (1 + len))) long
             ∙ goes-on (got (nameOf l) len) (text-got (drop (c .at) s) len short (text .reads) (ap (all allowed) (sym same) ∙ a))
+
+-- what a name's answer says of the bytes that it was read from
+module _ (s : List ℕ) (at : ℕ) where
+  pub name-given : nameAt s at .answer ≡ Accepted → Given (nameBy at) (readName (drop at s)) (nameAt s at)
+  unfolding nameAt
+  name-given = given (nameBy at) (λ (x : NameRead). x .answer) (λ x n. refl) (λ w. refl) (nameAt s at) (readName (drop at s)) refl
+
+  pub name-refused : (w : Refusal) → nameAt s at .answer ≡ Refused w → readName (drop at s) ≡ refused w
+  unfolding nameAt
+  name-refused = refusal (nameBy at) (λ (x : NameRead). x .answer) (λ x n. refl) (λ w. refl) (nameAt s at) (readName (drop at s)) refl

@@ -1,5 +1,5 @@
 -- How reading what stands before the steps goes on from what the cursor handed out.
-use mathlib.Core.Path.{_≡_, refl, sym, ap, _∙_}
+use mathlib.Core.Path.{_≡_, sym, ap, _∙_}
 use mathlib.Core.Bool.{_&&_}
 use mathlib.Core.List.{List}
 use Prim.Native.Nat.{ℕ, _+_}
@@ -13,10 +13,11 @@ use Rattle.refusal.specs.declared.Refusal.the-variants as refusals
 use Rattle.names.specs.declared.Name.{Name}
 use Rattle.model.specs.declared.Test.{Test}
 use Rattle.cursor.specs.Reading.{Read, got, refused, behind, allow, andThen, readByte}
-use Rattle.cursor.specs.Names.{readName, byteAt, nameBy, nameAt}
+use Rattle.cursor.specs.Names.{readName, byteAt, nameAt}
 use Rattle.cursor.specs.declared.Cursor.{Cursor}
+use Rattle.cursor.specs.declared.NameRead.{NameRead}
 use Rattle.cursor.specs.declared.NextByte.the-variants as next
-use Rattle.cursor.proofs.Laws.{ByteAt, byte-ended}
+use Rattle.cursor.proofs.Laws.{ByteAt, byte-ended, name-given, name-refused}
 use Rattle.decode.specs.declared.TestOption.{TestOption}
 use Rattle.decode.specs.declared.TestOption.the-variants as test
 use Rattle.decode.specs.declared.HeadRead.{HeadRead}
@@ -50,8 +51,13 @@ module _ (t : Test) (name : Name) (s : List ℕ) (at : ℕ) where
     unfolding readCounts
     second = byte-then s at steps c first (readBlockCount t name)
 
+    -- whatever the step count is: it is not judged before the block count is read
+    no-block-count : byteAt s (c .at) ≡ next.End → readBlockCount t name steps (drop (c .at) s) ≡ refused refusals.Length
+    unfolding andThen
+    no-block-count e = simp (byte-ended s (c .at) e)
+
     pub counts-one : byteAt s (c .at) ≡ next.End → readCounts t name (drop at s) ≡ refused refusals.Length
-    counts-one e = second ∙ ap (behind 1) (byte-none s (c .at) e (judgeCounts t name steps))
+    counts-one e = second ∙ ap (behind 1) (no-block-count e)
 
     pub counts-two : (blocks : ℕ) (d : Cursor) → ByteAt s (c .at) blocks d
         → readCounts t name (drop at s) ≡ behind 1 (behind 1 (allow (leb steps 12 && leb blocks 8) (got (headOf t name steps blocks) 0)))
@@ -81,12 +87,8 @@ module _ (s : List ℕ) (at : ℕ) where
       named m f = ap (λ (n : Read Name). headBy at (behind 1 (andThen (drop (c .at) s) n (readCounts t)))) (sym f) ∙ goes-on (test.Some t) e
 
       pub head-name : (r : Refusal) → nameAt s (c .at) .answer ≡ Refused r → headBy at (refused r) ≡ headAt s at
-      unfolding nameAt andThen
-      head-name r f = go (readName (drop (c .at) s)) refl f
-        where
-          go : (m : Read Name) → readName (drop (c .at) s) ≡ m → nameBy (c .at) m .answer ≡ Refused r → headBy at (refused r) ≡ headAt s at
-          go (got x n) p q = let z : _≡_ {A = ℕ} 0 1 = cc in absurd (omega arith)
-          go (refused x) p q = let same : r ≡ x = cc in ap (λ (y : Refusal). headBy at (refused y)) same ∙ named (refused x) p
+      unfolding andThen
+      head-name r f = named (refused r) (name-refused s (c .at) r f)
 
       -- the counts stand behind the name
       through : (x : Name) (n : ℕ) → readName (drop (c .at) s) ≡ got x n → (m : Read Head) → readCounts t x (drop (c .at + n) s) ≡ m
@@ -96,26 +98,21 @@ module _ (s : List ℕ) (at : ℕ) where
           ap (λ (k : Read Head). headBy at (behind 1 (behind n k))) (sym g ∙ ap (readCounts t x) (sym (drop-drop n (c .at) s)))
           ∙ named (got x n) p
 
-      pub head-refused : nameAt s (c .at) .answer ≡ Accepted → (r : Refusal)
-          → readCounts t (nameAt s (c .at) .name) (drop (nameAt s (c .at) .next .at) s) ≡ refused r → headBy at (refused r) ≡ headAt s at
-      unfolding nameAt
-      head-refused f r = go (readName (drop (c .at) s)) refl f
-        where
-          go : (m : Read Name) → readName (drop (c .at) s) ≡ m → nameBy (c .at) m .answer ≡ Accepted
-              → readCounts t (nameBy (c .at) m .name) (drop (nameBy (c .at) m .next .at) s) ≡ refused r → headBy at (refused r) ≡ headAt s at
-          go (got x n) p q g = through x n p (refused r) g
-          go (refused x) p q g = let z : _≡_ {A = ℕ} 0 1 = cc in absurd (omega arith)
+      module _ (f : nameAt s (c .at) .answer ≡ Accepted) where
+        after : (m : Read Head) → readCounts t (nameAt s (c .at) .name) (drop (nameAt s (c .at) .next .at) s) ≡ m
+            → headBy at (behind 1 (behind (name-given s (c .at) f .size) m)) ≡ headAt s at
+        after m h =
+            let g = name-given s (c .at) f in
+            through (g .value) (g .size) (g .reads) m (ap (λ (r : NameRead). readCounts t (r .name) (drop (r .next .at) s)) (sym (g .is)) ∙ h)
 
-      pub head-read : nameAt s (c .at) .answer ≡ Accepted → (h : Head) (j : ℕ)
-          → readCounts t (nameAt s (c .at) .name) (drop (nameAt s (c .at) .next .at) s) ≡ got h j
-          → readAs h (nameAt s (c .at) .next .at + j) ≡ headAt s at
-      unfolding nameAt
-      head-read f h j = go (readName (drop (c .at) s)) refl f
-        where
-          go : (m : Read Name) → readName (drop (c .at) s) ≡ m → nameBy (c .at) m .answer ≡ Accepted
-              → readCounts t (nameBy (c .at) m .name) (drop (nameBy (c .at) m .next .at) s) ≡ got h j
-              → readAs h (nameBy (c .at) m .next .at + j) ≡ headAt s at
-          go (got x n) p q g =
-              let place : c .at + n + j ≡ at + (1 + (n + j)) = omega (arith, first .after) in
-              ap (readAs h) place ∙ through x n p (got h j) g
-          go (refused x) p q g = let z : _≡_ {A = ℕ} 0 1 = cc in absurd (omega arith)
+        pub head-refused : (r : Refusal) → readCounts t (nameAt s (c .at) .name) (drop (nameAt s (c .at) .next .at) s) ≡ refused r
+            → headBy at (refused r) ≡ headAt s at
+        head-refused r h = after (refused r) h
+
+        pub head-read : (h : Head) (j : ℕ) → readCounts t (nameAt s (c .at) .name) (drop (nameAt s (c .at) .next .at) s) ≡ got h j
+            → readAs h (nameAt s (c .at) .next .at + j) ≡ headAt s at
+        head-read h j e =
+            let g = name-given s (c .at) f in
+            let n = g .size in
+            let place : c .at + n + j ≡ at + (1 + (n + j)) = omega (arith, first .after) in
+            ap (λ (r : NameRead). readAs h (r .next .at + j)) (g .is) ∙ ap (readAs h) place ∙ after (got h j) e

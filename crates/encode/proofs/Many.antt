@@ -80,3 +80,11 @@ module _ {A : Type 0} (bytes : A → List ℕ) where
             flat-le (i + 1) n (omega arith),
             ap length (flat-next i d within) ∙ length-append (flatMap bytes (take i xs)) (bytes (getD xs i d)),
           )
+
+      -- all n are written
+      pub wrote-all : (n i place : ℕ) (out : List ℕ) → i ≡ n → Wrote out₀ at i place out
+          → (place ≡ at + length (flatMap bytes (take n xs))) × (out ≡ written out₀ at (flatMap bytes (take n xs)))
+      wrote-all n i place out whole w = (
+        w .behind ∙ ap (λ (k : ℕ). at + length (flatMap bytes (take k xs))) whole,
+        w .is ∙ ap (λ (k : ℕ). written out₀ at (flatMap bytes (take k xs))) whole,
+      )

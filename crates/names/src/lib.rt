@@ -85,7 +85,7 @@ impl Name {
         ok & (len <= 20)
     }
 
-    // The name is EMPTY, padding included.
+    // The name is the empty one, padding included.
     pub fn is_blank(self) -> bool
         ensures { λ r. ⌜ r ≡ isBlank self ⌝ }
     {

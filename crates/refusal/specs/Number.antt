@@ -56,7 +56,7 @@ abbrev pub ask : Bool → Refusal → Answer → Answer
 ask true refusal rest = rest
 ask false refusal rest = Refused refusal
 
--- 0 where nothing is turned away: no question has that number
+-- 0 where nothing is refused: no question has that number
 abbrev pub answerNumber : Answer → ℕ
 answerNumber Accepted = 0
 answerNumber (Refused refusal) = numberOf refusal

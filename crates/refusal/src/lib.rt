@@ -1,5 +1,5 @@
-// The questions of document 01, 'The questions, in order', as refusals: one case for each question that can turn
-// something away, with its number. `Invalid` is model.rs's; the others that codec.rs names keep their names.
+// The questions of document 01, 'The questions, in order', as refusals: one case for each question that can fail,
+// with its number. `Invalid` is model.rs's; the others that codec.rs names keep their names.
 ghost use mathlib.Core.Path.{_≡_};
 ghost use Rattle.refusal.specs.Number.{numberOf};
 
@@ -14,7 +14,7 @@ pub enum Invalid {
     TooLong,
 }
 
-// Which question turned the input or the call away.
+// Which question the input or the call failed.
 pub enum Refusal {
     Length,
     Magic,
@@ -28,10 +28,12 @@ pub enum Refusal {
     Totals,
     EventPlaces,
     Extra,
+    // A ride sheet is document 01's name for a stored list of calls with their values; an act is one of them.
     SheetLength,
     Act,
     Record,
     Output,
+    // A player is standing, in document 01's word, if its fields agree with each other and lie within their limits.
     Standing,
 }
 
@@ -67,7 +69,7 @@ impl Refusal {
     }
 }
 
-// What asking gives: nothing turned away, or the first question that failed.
+// What asking gives: accepted, or the first question that failed.
 pub enum Answer {
     Accepted,
     Refused(Refusal),

@@ -1,12 +1,10 @@
 -- How reading a step at a place of a slice goes on from what the cursor handed out.
-use mathlib.Core.Path.{_≡_, refl, sym, ap, ap₂, _∙_}
-use mathlib.Core.Bool.{Bool, true, false, cond}
+use mathlib.Core.Path.{_≡_, sym, ap, ap₂, _∙_}
 use mathlib.Core.List.{List}
 use Prim.Native.Nat.{ℕ, _+_}
 use native.Mathlib.Nat.{add-zero}
 use native.Mathlib.Omega.{arith}
-use lib.Dec.{leb}
-use lib.ListN.{length, getD, take, drop}
+use lib.ListN.{getD, drop}
 use lib.Seq.{getD-drop, drop-drop}
 use Rattle.le.specs.Le.{numberOf, part}
 use Rattle.refusal.specs.declared.Answer.the-variants.{Accepted, Refused}
@@ -17,11 +15,12 @@ use Rattle.model.specs.declared.Intensity.{Intensity}
 use Rattle.model.specs.declared.Length.{Length}
 use Rattle.model.specs.declared.Target.{Target}
 use Rattle.model.specs.declared.Step.{Step}
-use Rattle.cursor.specs.Reading.{Read, got, refused, behind, andThen, takeBytes}
-use Rattle.cursor.specs.Names.{readName, takenAt, nameBy, nameAt}
+use Rattle.cursor.specs.Reading.{Read, got, refused, behind, andThen}
+use Rattle.cursor.specs.Names.{readName, takenAt, nameAt}
 use Rattle.cursor.specs.declared.Cursor.{Cursor}
 use Rattle.cursor.specs.declared.Taken.the-variants as taken
-use Rattle.cursor.proofs.Laws.{TakenAt, taken-ended}
+use Rattle.cursor.specs.declared.NameRead.{NameRead}
+use Rattle.cursor.proofs.Laws.{TakenAt, taken-short, enough-here, enough-end, name-given, name-refused}
 use Rattle.steps.specs.declared.Fixed.{Fixed}
 use Rattle.steps.specs.declared.Fixed.the-variants as fixed
 use Rattle.steps.specs.declared.StepRead.{StepRead}
@@ -39,39 +38,20 @@ pub fixed-place : (s : List ℕ) (at : ℕ) → fixedOf (drop at s) ≡ fixedAt 
 unfolding fixedOf
 fixed-place s at = simp (getD-drop, drop-drop, add-zero)
 
--- bytes enough, or not
-step-enough : (l : List ℕ) → takeBytes 15 l ≡ got (take 15 l) 15 → readStep l ≡ behind 14 (noteThen (fixedOf l) (drop 14 l))
-unfolding readStep takeBytes
-step-enough l e = go (leb 15 (length l)) e
-  where
-    go : (t : Bool) → cond t (got (take 15 l) 15) (refused refusals.Length) ≡ got (take 15 l) 15
-        → cond t (behind 14 (noteThen (fixedOf l) (drop 14 l))) (refused refusals.Length) ≡ behind 14 (noteThen (fixedOf l) (drop 14 l))
-    go true f = refl
-    go false f = let z : _≡_ {A = ℕ} 0 1 = cc in absurd (omega arith)
-
-step-short : (l : List ℕ) → takeBytes 15 l ≡ refused refusals.Length → readStep l ≡ refused refusals.Length
-unfolding readStep takeBytes
-step-short l e = go (leb 15 (length l)) e
-  where
-    go : (t : Bool) → cond t (got (take 15 l) 15) (refused refusals.Length) ≡ refused refusals.Length
-        → cond t (behind 14 (noteThen (fixedOf l) (drop 14 l))) (refused refusals.Length) ≡ refused refusals.Length
-    go true f = let z : _≡_ {A = ℕ} 0 1 = cc in absurd (omega arith)
-    go false f = refl
-
 abbrev pub readAs : Step → ℕ → StepRead
 readAs step at = record { answer = Accepted; step = step; next = record { at = at } }
 
 module _ (s : List ℕ) (at : ℕ) where
   pub step-end : takenAt s at 15 ≡ taken.End → stepBy at (refused refusals.Length) ≡ stepAt s at
-  unfolding stepAt
-  step-end e = ap (stepBy at) (sym (step-short (drop at s) (taken-ended s at 15 e)))
+  unfolding stepAt readStep
+  step-end e = ap (stepBy at) (sym (enough-end 15 (drop at s) (behind 14 (noteThen (fixedOf (drop at s)) (drop 14 (drop at s)))) (taken-short s at 15 e)))
 
   module _ (from : ℕ) (c : Cursor) (there : TakenAt s at 15 from c) where
     goes-on : (f : Fixed) → fixedOf (drop from s) ≡ f → stepBy at (behind 14 (noteThen f (drop (from + 14) s))) ≡ stepAt s at
-    unfolding stepAt
+    unfolding stepAt readStep
     goes-on f e =
         ap (stepBy at)
-        (sym (step-enough (drop at s) (there .reads)
+        (sym (enough-here 15 (drop at s) (behind 14 (noteThen (fixedOf (drop at s)) (drop 14 (drop at s)))) (there .within)
         ∙ ap₂ (λ (g : Fixed) (l : List ℕ). behind 14 (noteThen g l)) (ap (λ (k : ℕ). fixedOf (drop k s)) (sym (there .place)) ∙ e)
         (drop-drop 14 at s ∙ ap (λ (k : ℕ). drop (k + 14) s) (sym (there .place)))))
 
@@ -87,22 +67,14 @@ module _ (s : List ℕ) (at : ℕ) where
           ∙ goes-on (fixed.Some i l t) e
 
       pub step-refused : (r : Refusal) → nameAt s (from + 14) .answer ≡ Refused r → stepBy at (refused r) ≡ stepAt s at
-      unfolding nameAt andThen
-      step-refused r f = go (readName (drop (from + 14) s)) refl f
-        where
-          go : (m : Read Name) → readName (drop (from + 14) s) ≡ m → nameBy (from + 14) m .answer ≡ Refused r → stepBy at (refused r) ≡ stepAt s at
-          go (got x n) p q = let z : _≡_ {A = ℕ} 0 1 = cc in absurd (omega arith)
-          go (refused x) p q = let same : r ≡ x = cc in ap (λ (y : Refusal). stepBy at (refused y)) same ∙ noted (refused x) p
+      unfolding andThen
+      step-refused r f = noted (refused r) (name-refused s (from + 14) r f)
 
       pub step-read : nameAt s (from + 14) .answer ≡ Accepted
           → readAs (stepOf i l t (nameAt s (from + 14) .name)) (nameAt s (from + 14) .next .at) ≡ stepAt s at
-      unfolding nameAt andThen
-      step-read f = go (readName (drop (from + 14) s)) refl f
-        where
-          go : (m : Read Name) → readName (drop (from + 14) s) ≡ m → nameBy (from + 14) m .answer ≡ Accepted
-              → readAs (stepOf i l t (nameBy (from + 14) (readName (drop (from + 14) s)) .name)) (nameBy (from + 14) (readName (drop (from + 14) s)) .next .at) ≡ stepAt s at
-          go (got x n) p q =
-              let place : from + 14 + n ≡ at + (14 + (n + 0)) = omega (arith, there .place) in
-              ap (λ (m : Read Name). readAs (stepOf i l t (nameBy (from + 14) m .name)) (nameBy (from + 14) m .next .at)) p
-              ∙ ap (readAs (stepOf i l t x)) place ∙ noted (got x n) p
-          go (refused x) p q = let z : _≡_ {A = ℕ} 0 1 = cc in absurd (omega arith)
+      unfolding andThen
+      step-read f =
+          let g = name-given s (from + 14) f in
+          let place : from + 14 + g .size ≡ at + (14 + (g .size + 0)) = omega (arith, there .place) in
+          ap (λ (r : NameRead). readAs (stepOf i l t (r .name)) (r .next .at)) (g .is)
+          ∙ ap (readAs (stepOf i l t (g .value))) place ∙ noted (got (g .value) (g .size)) (g .reads)

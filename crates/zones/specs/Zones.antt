@@ -1,6 +1,6 @@
 -- ride/zones.rs: percent, zones, ranges, and document 01's question 10.
 use mathlib.Core.Bool.{Bool, cond, _&&_}
-use mathlib.Core.List.{List, [], _∷_}
+use mathlib.Core.List.{List, [], _∷_, _++_}
 use Prim.Native.Nat.{ℕ, _+_, _-_, _*_, _/_, max, min}
 use lib.Dec.{ltb, leb, eqb}
 use lib.ListN.{getD}
@@ -58,7 +58,7 @@ clamped zone zones = min (max zone 1) zones
 
 -- One more than the upper bound of the zone at a place from 0; the open top zone ends at 200 % of FTP.
 abbrev pub upper : TrainingProfile → ℕ → ℕ
-upper p at = percentOf (p .«ftp_watts») (getD (55 ∷ 75 ∷ 90 ∷ 105 ∷ 120 ∷ 150 ∷ 200 ∷ []) at 0) + 1
+upper p at = percentOf (p .«ftp_watts») (getD (powerUpper ++ (200 ∷ [])) at 0) + 1
 
 -- From a zone's beginning to the next one's, which is at least one further.
 abbrev pub rangeFrom : ℕ → ℕ → Range
@@ -73,7 +73,7 @@ powerRange p zone = powerFrom p (clamped zone 7 - 1)
 
 -- The bounds of the heart zones in percent of LTHR, from 65 % at the bottom to 110 % at the top.
 abbrev pub bound : TrainingProfile → ℕ → ℕ
-bound p at = percentOf (p .«lthr_bpm») (getD (65 ∷ 81 ∷ 90 ∷ 94 ∷ 100 ∷ 110 ∷ []) at 0)
+bound p at = percentOf (p .«lthr_bpm») (getD (65 ∷ (heartLower ++ (110 ∷ []))) at 0)
 
 abbrev pub heartFrom : TrainingProfile → ℕ → Range
 heartFrom p at = rangeFrom (bound p at) (bound p (at + 1))
