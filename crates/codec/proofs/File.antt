@@ -46,7 +46,8 @@ use Rattle.encode.proofs.Sizes.{head-length}
 use Rattle.encode.proofs.File.{form-parts, body-length, file-length, file-size, accepted-form}
 use Rattle.step_writer.proofs.Laws.{name-size, step-length}
 use Rattle.codec.specs.Typed.{NameFits, StepFits, AllFit, WorkoutFits}
-use Rattle.codec.specs.RoundTrip.{WrittenIsRead}
+use Rattle.codec.specs.RoundTrip.{acceptedAs, WrittenIsRead}
+use Rattle.codec.proofs.Padded.{fit-take}
 use Rattle.codec.proofs.Names.{name-len, name-back}
 use Rattle.codec.proofs.Steps.{step-back}
 use Rattle.codec.proofs.Many.{Back, many-back}
@@ -65,12 +66,10 @@ blocks-back : (bs : List Block) → Back readBlock blockBytes bs
 blocks-back [] = tt
 blocks-back (b ∷ bs) = (block-back b, blocks-back bs)
 
-steps-back : (xs : List Step) (n : ℕ) → AllFit StepFits xs → all noteOk (take n xs) ≡ true → Back readStep stepBytes (take n xs)
+steps-back : (xs : List Step) → AllFit StepFits xs → all noteOk xs ≡ true → Back readStep stepBytes xs
 unfolding all
-steps-back xs zero fits ok = tt
-steps-back [] (suc n) fits ok = tt
-steps-back (x ∷ xs) (suc n) fits ok =
-    (step-back x (fits .0) (and-left (noteOk x) (all noteOk (take n xs)) ok), steps-back xs n (fits .1) (and-right (noteOk x) (all noteOk (take n xs)) ok))
+steps-back [] fits ok = tt
+steps-back (x ∷ xs) fits ok = (step-back x (fits .0) (and-left (noteOk x) (all noteOk xs) ok), steps-back xs (fits .1) (and-right (noteOk x) (all noteOk xs) ok))
 
 abbrev headOf : Workout → Head
 headOf w = record { test = w .test; name = w .name; steps = w .«step_count»; blocks = w .«block_count» }
@@ -129,6 +128,15 @@ abbrev withParts : Workout → List Step → List Block → Workout
 withParts w steps blocks =
     record { name = w .name; steps = steps; «step_count» = w .«step_count»; blocks = blocks; «block_count» = w .«block_count»; test = w .test }
 
+-- a body's parts, one behind the other
+pub body-is : (w : Workout)
+    → bodyBytes w
+    ≡ 86 ∷ 87 ∷ 1 ∷ testKind (w .test) ∷ (nameBytes (w .name) ++ (w .«step_count» ∷ w .«block_count» ∷ (flatMap stepBytes (stepsOf w) ++ flatMap blockBytes (blocksOf w))))
+unfolding bodyBytes headBytes
+body-is w =
+    ap (λ (l : List ℕ). 86 ∷ 87 ∷ 1 ∷ testKind (w .test) ∷ l)
+    (append-assoc (nameBytes (w .name)) (w .«step_count» ∷ w .«block_count» ∷ []) (flatMap stepBytes (stepsOf w) ++ flatMap blockBytes (blocksOf w)))
+
 module _ (w : Workout) (fits : WorkoutFits w) (ok : formOk w ≡ true) where
   same-workout : workoutOf (headOf w) (stepsOf w) (blocksOf w) ≡ w
   same-workout =
@@ -139,20 +147,11 @@ module _ (w : Workout) (fits : WorkoutFits w) (ok : formOk w ≡ true) where
       (unused-places .steps (drop (w .«step_count») (w .steps)) (sized-notes (w .steps) (w .«step_count») (fits .steps)) (u .steps)))
       (filled (w .«block_count») 8 noBlock (w .blocks) (fits .eight) (f .blocks) (unused-places .blocks (drop (w .«block_count») (w .blocks)) (u .blocks)))
 
-  -- the body behind the version
-  tail-bytes : List ℕ
-  tail-bytes = flatMap stepBytes (stepsOf w) ++ flatMap blockBytes (blocksOf w)
-
-  body-from-3 : drop 3 (bodyBytes w) ≡ testKind (w .test) ∷ (nameBytes (w .name) ++ (w .«step_count» ∷ w .«block_count» ∷ tail-bytes))
-  unfolding bodyBytes headBytes tail-bytes
-  body-from-3 = ap (λ (l : List ℕ). testKind (w .test) ∷ l) (append-assoc (nameBytes (w .name)) (w .«step_count» ∷ w .«block_count» ∷ []) (flatMap stepBytes (stepsOf w) ++ flatMap blockBytes (blocksOf w)))
-
   after-head : (n : ℕ) → length (headBytes w) ≡ n → drop n (bodyBytes w) ≡ flatMap stepBytes (stepsOf w) ++ flatMap blockBytes (blocksOf w)
   unfolding bodyBytes
   after-head n e = drop-at (headBytes w) (flatMap stepBytes (stepsOf w) ++ flatMap blockBytes (blocksOf w)) n e
 
-  contents-back : validAnswer w ≡ Accepted → contentsOf (bodyBytes w) ≡ record { answer = Accepted; workout = w }
-  unfolding tail-bytes
+  contents-back : validAnswer w ≡ Accepted → contentsOf (bodyBytes w) ≡ acceptedAs w
   contents-back v =
       let f = form-parts w ok in
       let u = form-unused w ok in
@@ -168,12 +167,12 @@ module _ (w : Workout) (fits : WorkoutFits w) (ok : formOk w ≡ true) where
       let block-count : length (blocksOf w) ≡ w .«block_count» = length-take-le (w .«block_count») (w .blocks) (omega (arith, fits .eight, f .blocks)) in
       let from-steps : drop at-steps body ≡ steps ++ blocks = after-head at-steps head-size in
       let from-blocks : drop at-blocks body ≡ blocks = sym (drop-drop (length steps) at-steps body) ∙ ap (drop (length steps)) from-steps ∙ drop-append-seam steps blocks in
-      let head : ReadAt readHead body 3 (headOf w) at-steps = record { size = size; reads = ap readHead body-from-3 ∙ head-back w (steps ++ blocks) (fits .named) (u .named) (f .steps) (f .blocks); after = refl } in
+      let head : ReadAt readHead body 3 (headOf w) at-steps = record { size = size; reads = ap (λ (l : List ℕ). readHead (drop 3 l)) (body-is w) ∙ head-back w (steps ++ blocks) (fits .named) (u .named) (f .steps) (f .blocks); after = refl } in
       let some : ReadAt (readMany readStep (w .«step_count»)) body at-steps (stepsOf w) at-blocks = record {
         size = length steps;
         reads =
             ap₂ (readMany readStep) (sym step-count) from-steps
-            ∙ many-back readStep stepBytes (stepsOf w) (steps-back (w .steps) (w .«step_count») (fits .steps) (f .notes)) blocks;
+            ∙ many-back readStep stepBytes (stepsOf w) (steps-back (stepsOf w) (fit-take StepFits (w .«step_count») (w .steps) (fits .steps)) (f .notes)) blocks;
         after = refl;
       } in
       let last : ReadAt (readMany readBlock (w .«block_count»)) body at-blocks (blocksOf w) at-end = record {
@@ -188,16 +187,14 @@ module _ (w : Workout) (fits : WorkoutFits w) (ok : formOk w ≡ true) where
       ∙ ap (judged w) v
 
 -- how many bytes some steps take
-steps-most : (xs : List Step) (n : ℕ) → AllFit StepFits xs → all noteOk (take n xs) ≡ true
-    → (15 * length (take n xs) ≤ length (flatMap stepBytes (take n xs))) × (length (flatMap stepBytes (take n xs)) ≤ 35 * length (take n xs))
+steps-most : (xs : List Step) → AllFit StepFits xs → all noteOk xs ≡ true
+    → (15 * length xs ≤ length (flatMap stepBytes xs)) × (length (flatMap stepBytes xs) ≤ 35 * length xs)
 unfolding all flatMap
-steps-most xs zero fits ok = (omega arith, omega arith)
-steps-most [] (suc n) fits ok = (omega arith, omega arith)
-steps-most (x ∷ xs) (suc n) fits ok =
-    let here = and-left (noteOk x) (all noteOk (take n xs)) ok in
-    let rest = steps-most xs n (fits .1) (and-right (noteOk x) (all noteOk (take n xs)) ok) in
-    let short = name-len (x .note) (fits .0 .noted) here in
-    let size = length-append (stepBytes x) (flatMap stepBytes (take n xs)) in
+steps-most [] fits ok = (omega arith, omega arith)
+steps-most (x ∷ xs) fits ok =
+    let rest = steps-most xs (fits .1) (and-right (noteOk x) (all noteOk xs) ok) in
+    let short = name-len (x .note) (fits .0 .noted) (and-left (noteOk x) (all noteOk xs) ok) in
+    let size = length-append (stepBytes x) (flatMap stepBytes xs) in
     let one = step-length x in
     let note = name-size (x .note) short (fits .0 .noted) in
     (omega arith, omega arith)
@@ -228,36 +225,34 @@ module _ (w : Workout) (fits : WorkoutFits w) (accepted : workoutAnswer w ≡ Ac
       let f = form-parts w passes-5 in
       let some = accepted-steps w passes-6-to-9 in
       let step-count : length (stepsOf w) ≡ w .«step_count» = length-take-le (w .«step_count») (w .steps) (omega (arith, fits .twelve, f .steps)) in
-      let bytes = steps-most (w .steps) (w .«step_count») (fits .steps) (f .notes) in
+      let bytes = steps-most (stepsOf w) (fit-take StepFits (w .«step_count») (w .steps) (fits .steps)) (f .notes) in
       let size = file-size w (f .name) (fits .named) (fits .eight) (f .blocks) in
       (omega (arith, bytes .0, f .steps), omega (arith, bytes .1, f .steps, f .blocks, f .name))
 
-  body-again : bodyOf (fileBytes w) ≡ bodyBytes w
+  pub body-of-file : bodyOf (fileBytes w) ≡ bodyBytes w
   unfolding fileBytes
-  body-again = take-at (bodyBytes w) (bytesOf 4 (checkOf (bodyBytes w))) (length (fileBytes w) - 4) (omega (arith, file-length w))
+  body-of-file = take-at (bodyBytes w) (bytesOf 4 (checkOf (bodyBytes w))) (length (fileBytes w) - 4) (omega (arith, file-length w))
 
   magic-again : begins (bodyOf (fileBytes w)) ≡ true
-  unfolding bodyBytes headBytes
-  magic-again = ap begins body-again
+  magic-again = ap begins (body-of-file ∙ body-is w)
 
   version-again : getD (bodyOf (fileBytes w)) 2 0 ≡ 1
-  unfolding bodyBytes headBytes
-  version-again = ap (λ (l : List ℕ). getD l 2 0) body-again
+  version-again = ap (λ (l : List ℕ). getD l 2 0) (body-of-file ∙ body-is w)
 
   check-again : checkOf (bodyOf (fileBytes w)) ≡ numberOf (part (fileBytes w) (length (fileBytes w) - 4) 4)
   unfolding fileBytes
   check-again =
       let c = checkOf (bodyBytes w) in
-      ap checkOf body-again
+      ap checkOf body-of-file
       ∙ sym
       (ap (λ (l : List ℕ). numberOf (take 4 l)) (drop-at (bodyBytes w) (bytesOf 4 c) (length (fileBytes w) - 4) (omega (arith, file-length w)))
       ∙ ap numberOf (take-all 4 (bytesOf 4 c) (omega (arith, length-bytes 4 c)))
       ∙ number-bytes 4 c (check-lt (bodyBytes w)))
 
-  file-back : decodeOf (fileBytes w) ≡ record { answer = Accepted; workout = w }
+  file-back : decodeOf (fileBytes w) ≡ acceptedAs w
   file-back =
       sym (checked (fileBytes w) (omega (arith, size-bounds .0)) (size-bounds .1) magic-again version-again check-again)
-      ∙ ap contentsOf body-again
+      ∙ ap contentsOf body-of-file
       ∙ contents-back w fits passes-5 passes-6-to-9
 
 pub written-is-read : WrittenIsRead

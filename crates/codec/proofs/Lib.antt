@@ -1,4 +1,12 @@
+pub mod Padded
 pub mod Names
 pub mod Steps
 pub mod Many
 pub mod File
+pub mod Parts
+pub mod ReadNames
+pub mod ReadSteps
+pub mod ReadMany
+pub mod ReadBody
+pub mod ReadFile
+pub mod Fillers

@@ -1,2 +1,3 @@
 pub mod Typed
+pub mod Fillers
 pub mod RoundTrip

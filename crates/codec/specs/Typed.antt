@@ -1,7 +1,7 @@
 -- The values that a workout's types hold: definitions speak of all numbers and lists, a workout in memory has those that fit.
 use mathlib.Core.Path.{_≡_}
 use mathlib.Core.List.{List, [], _∷_}
-use Prim.Native.Nat.{ℕ, suc, _<_}
+use Prim.Native.Nat.{ℕ, _<_}
 use lib.ListN.{length}
 use Rattle.names.specs.declared.Name.{Name}
 use Rattle.model.specs.declared.Length.{Length}
