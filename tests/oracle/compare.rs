@@ -1,13 +1,45 @@
-//! Both sides at once: the Rust, and the Rattle of crate `compare` from its static library, on every limit and on random
-//! inputs. Words: how many random inputs (default 1,000,000), the seed (default 1). Writes a line for each question and fails
-//! where an answer differs.
-use inputs::{Random, limit_inputs, random_input};
-use questions::{NAMES, answer};
+//! Both sides at once: the Rust, and the Rattle of crates `compare` and `compare_files` from their static libraries, on every
+//! limit, on random inputs and on workout files, whole, damaged and random. Words: how many random inputs and as many random
+//! files (default 1,000,000), the seed (default 1). Writes a line for each question, and how many files each question of
+//! document 01 refused. Fails where an answer differs, and where one of the refusals 1 to 9 wasn't met.
+use inputs::{Random, files, limit_inputs, random_input};
+use questions::{FILE, FILL, LENT, NAMES, WRITTEN, answer, written_answer};
 
 #[link(name = "compare", kind = "static")]
 unsafe extern "C" {
     /// Word `place` of the answer. A slice goes as its pointer and its length.
     safe fn compare_answer(question: u32, input: *const u8, length: usize, place: u32) -> u32;
+}
+
+#[link(name = "compare_files", kind = "static")]
+unsafe extern "C" {
+    /// As many words of the answer on a file as there are places for.
+    safe fn compare_file(file: *const u8, length: usize, answer: *mut u32, places: usize);
+    /// What is read of a file, written again: how many bytes, or the number of the question that refuses, at most 20.
+    safe fn compare_written(file: *const u8, length: usize, out: *mut u8, room: usize) -> u32;
+}
+
+fn written(file: &[u8], out: &mut [u8]) -> u32 {
+    compare_written(file.as_ptr(), file.len(), out.as_mut_ptr(), out.len())
+}
+
+/// So many words of our answer.
+fn ours(question: usize, input: &[u8], words: usize) -> Vec<u32> {
+    match question {
+        FILE => {
+            let mut answer = vec![0; words];
+            compare_file(input.as_ptr(), input.len(), answer.as_mut_ptr(), words);
+            answer
+        }
+        WRITTEN => {
+            let mut out = [FILL; LENT];
+            let size = written(input, &mut out);
+            written_answer(size, &out)
+        }
+        _ => {
+            (0..words as u32).map(|place| compare_answer(question as u32, input.as_ptr(), input.len(), place)).collect()
+        }
+    }
 }
 
 #[derive(Clone, Copy, Default)]
@@ -20,14 +52,13 @@ struct Tally {
 /// Differences are written out as the oracle's lines, so many of each question.
 const SHOWN: u64 = 5;
 
-fn compare(question: usize, input: &[u8], tally: &mut Tally) {
+/// Gives the Rust's answer.
+fn compare(question: usize, input: &[u8], tally: &mut Tally) -> Vec<u32> {
     let judged = answer(question, input);
     if judged.is_empty() {
-        return;
+        return judged;
     }
-    let ours: Vec<u32> = (0..judged.len() as u32)
-        .map(|place| compare_answer(question as u32, input.as_ptr(), input.len(), place))
-        .collect();
+    let ours = ours(question, input, judged.len());
     tally.inputs += 1;
     tally.words += judged.len() as u64;
     if ours != judged {
@@ -35,6 +66,36 @@ fn compare(question: usize, input: &[u8], tally: &mut Tally) {
         if tally.different <= SHOWN {
             println!("{} {:?}\n  Rust   {judged:?}\n  Rattle {ours:?}", NAMES[question], shown(question, input));
         }
+    }
+    judged
+}
+
+/// What was found of files: how many of them each question refused (0: accepted), and the writer's refusals. The Rust's writer
+/// refuses nothing: that those of ours have document 01's number and leave all bytes is asked beside the comparison.
+#[derive(Default)]
+struct Files {
+    met: [u64; 10],
+    refused: Tally,
+}
+
+impl Files {
+    fn compare(&mut self, file: &[u8], tallies: &mut [Tally; NAMES.len()]) {
+        let refusal = compare(FILE, file, &mut tallies[FILE])[0];
+        self.met[refusal as usize] += 1;
+        if refusal == 0 {
+            let size = compare(WRITTEN, file, &mut tallies[WRITTEN])[0];
+            self.refusal(file, size as usize - 1, 19);
+        } else {
+            // The empty workout has no steps.
+            self.refusal(file, LENT, 6);
+        }
+    }
+
+    fn refusal(&mut self, file: &[u8], room: usize, number: u32) {
+        let mut out = [FILL; LENT];
+        let answer = written(file, &mut out[..room]);
+        self.refused.inputs += 1;
+        self.refused.different += u64::from(answer != number || out != [FILL; LENT]);
     }
 }
 
@@ -51,15 +112,27 @@ fn main() {
     let count = numbers.first().copied().unwrap_or(1_000_000);
     let mut random = Random(numbers.get(1).copied().unwrap_or(1));
     let mut tallies = [Tally::default(); NAMES.len()];
-    for question in 0..NAMES.len() {
+    for question in 0..FILE {
         for input in limit_inputs(question) {
             compare(question, &input, &mut tallies[question]);
         }
     }
     for _ in 0..count {
-        let question = random.below(NAMES.len() as u32) as usize;
+        let question = random.below(FILE as u32) as usize;
         let input = random_input(&mut random, question);
         compare(question, &input, &mut tallies[question]);
+    }
+    let mut found = Files::default();
+    for file in limit_inputs(FILE) {
+        found.compare(&file, &mut tallies);
+    }
+    for whole in files::whole_files() {
+        for file in files::damaged(&whole) {
+            found.compare(&file, &mut tallies);
+        }
+    }
+    for _ in 0..count {
+        found.compare(&random_input(&mut random, FILE), &mut tallies);
     }
     let mut total = Tally::default();
     for (name, tally) in NAMES.iter().zip(tallies) {
@@ -69,5 +142,11 @@ fn main() {
         total.different += tally.different;
     }
     println!("all: {} inputs, {} words compared, {} different", total.inputs, total.words, total.different);
-    std::process::exit((total.different > 0).into());
+    println!("files accepted, then refused by 1 to 9: {:?}", found.met);
+    println!("refused writers: {}, {} not as document 01 has it", found.refused.inputs, found.refused.different);
+    let whole = !found.met.contains(&0);
+    if !whole {
+        println!("a refusal wasn't met");
+    }
+    std::process::exit((total.different > 0 || found.refused.different > 0 || !whole).into());
 }

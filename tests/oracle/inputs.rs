@@ -1,4 +1,6 @@
 //! Inputs for each question: its limits, and random ones from a seed.
+pub mod files;
+
 use questions::*;
 
 /// SplitMix64.
@@ -298,6 +300,7 @@ pub fn random_input(random: &mut Random, question: usize) -> Vec<u8> {
         },
         ORDER => sound_workout(random).words(),
         NAME => return text(random),
+        FILE | WRITTEN => return files::random_file(random),
         _ => panic!("there is no question {question}"),
     })
 }
@@ -387,6 +390,7 @@ pub fn limit_inputs(question: usize) -> Vec<Vec<u8>> {
             texts.extend([0, 1, 19, 20, 21, 40].map(|len| vec![b'a'; len]));
             return texts;
         }
+        FILE | WRITTEN => return files::limit_files(),
         _ => panic!("there is no question {question}"),
     }
     words.iter().map(|words| bytes_of(words)).collect()

@@ -1,6 +1,7 @@
 //! What the Rust is asked, and its answers. A question is a number (its place in `NAMES`) with bytes as its input; the answer
-//! is 32-bit words. Input bytes are little-endian 32-bit words, 0 past the end, except where a question takes text or, later,
-//! a file. Numbers wider than what the Rust takes lose their upper bits. Crate `compare` answers the same questions.
+//! is 32-bit words. Input bytes are little-endian 32-bit words, 0 past the end, except where a question takes text or a
+//! file. Numbers wider than what the Rust takes lose their upper bits. Crates `compare` and `compare_files` answer the same
+//! questions.
 //!
 //! | question | input | answer |
 //! | --- | --- | --- |
@@ -13,18 +14,23 @@
 //! | name | text | length, then 20 bytes |
 //! | validate | workout | 0, or document 01's number |
 //! | order | workout | played length, planned seconds, 1 if a step is untimed, then a word for each position and one past the last |
+//! | file | workout file | document 01's number of the refusal, or 0 and what was read: test, step count, block count, name, steps, blocks, then as `order` |
+//! | written | workout file | how many bytes writing what was read gives, then those bytes and the two words behind them |
 //!
 //! The private `percent` of zones.rs isn't reached with any percentage but through `band` and `ramp`, which cut it; uncut it
 //! shows in the ranges. A target is kind, a, b, c, as in the file. A workout is test, step count, block count, then for each
 //! step intensity, length kind, value, target, then for each block first, len, count. A word of the order is
 //! 2^24 + 2^16 × index + 2^8 × repetition + of, and 0 where nothing is played. `order` is asked of workouts that pass
-//! `validate`; of others it has no answer.
+//! `validate`; of others it has no answer. In the answers on files a name is its length and its 20 bytes in five words, a step
+//! intensity, length kind, value, target (kind, a, b, c) and note, a block 2^16 × count + 2^8 × len + first. `written` is asked
+//! of files that are accepted, over `LENT` bytes of `FILL`: those past the file stay.
 use vana::ride::zones::TrainingProfile;
+use vana::workout::codec::{self, DecodeError};
 use vana::workout::model::{
     Block, Intensity, Invalid, Length, MAX_BLOCKS, MAX_STEPS, Metric, Name, Ramp, Step, Target, Test, Workout,
 };
 
-pub const NAMES: [&str; 11] = [
+pub const NAMES: [&str; 13] = [
     "percent",
     "power_zone",
     "heart_zone",
@@ -36,6 +42,8 @@ pub const NAMES: [&str; 11] = [
     "name",
     "validate",
     "order",
+    "file",
+    "written",
 ];
 pub const PERCENT: usize = 0;
 pub const POWER_ZONE: usize = 1;
@@ -48,10 +56,16 @@ pub const STAGE: usize = 7;
 pub const NAME: usize = 8;
 pub const VALIDATE: usize = 9;
 pub const ORDER: usize = 10;
+pub const FILE: usize = 11;
+pub const WRITTEN: usize = 12;
+
+/// What the writer is lent, and the byte that stands in each place of it.
+pub const LENT: usize = 484;
+pub const FILL: u8 = 165;
 
 /// The input of a question is bytes as they are, not 32-bit words.
 pub fn takes_bytes(question: usize) -> bool {
-    question == NAME
+    matches!(question, NAME | FILE | WRITTEN)
 }
 
 pub fn bytes_of(words: &[u32]) -> Vec<u8> {
@@ -117,15 +131,29 @@ pub fn workout(input: &[u8]) -> Workout {
     Workout::new("", &steps, &blocks, test)
 }
 
-fn refusal(workout: &Workout) -> u32 {
-    match workout.validate() {
-        Ok(()) => 0,
-        Err(Invalid::NoSteps) => 6,
-        Err(Invalid::Block) => 7,
-        Err(Invalid::Step) => 8,
-        Err(Invalid::TooLong) => 9,
+fn invalid_number(invalid: Invalid) -> u32 {
+    match invalid {
+        Invalid::NoSteps => 6,
+        Invalid::Block => 7,
+        Invalid::Step => 8,
+        Invalid::TooLong => 9,
         // `Workout` holds no more than it has places for.
-        Err(Invalid::TooManySteps | Invalid::TooManyBlocks) => unreachable!(),
+        Invalid::TooManySteps | Invalid::TooManyBlocks => unreachable!(),
+    }
+}
+
+fn refusal(workout: &Workout) -> u32 {
+    workout.validate().map_or_else(invalid_number, |()| 0)
+}
+
+fn decode_number(error: DecodeError) -> u32 {
+    match error {
+        DecodeError::Length => 1,
+        DecodeError::Magic => 2,
+        DecodeError::Version => 3,
+        DecodeError::Checksum => 4,
+        DecodeError::Field => 5,
+        DecodeError::Invalid(invalid) => invalid_number(invalid),
     }
 }
 
@@ -138,6 +166,76 @@ fn order(workout: &Workout) -> Vec<u32> {
         1 << 24 | u32::from(played.index) << 16 | u32::from(played.repetition) << 8 | u32::from(played.of)
     }));
     words.push(0);
+    words
+}
+
+fn name_words(name: &Name) -> Vec<u32> {
+    let mut bytes = [0; 20];
+    bytes[..name.as_bytes().len()].copy_from_slice(name.as_bytes());
+    let mut words = vec![name.as_bytes().len() as u32];
+    words.extend((0..5).map(|place| word(&bytes, place)));
+    words
+}
+
+fn step_words(step: &Step) -> Vec<u32> {
+    let intensity = match step.intensity {
+        Intensity::Warmup => 0,
+        Intensity::Work => 1,
+        Intensity::Recovery => 2,
+        Intensity::Cooldown => 3,
+        Intensity::Test => 4,
+    };
+    let length = match step.length {
+        Length::Time(secs) => [0, secs.into()],
+        Length::Distance(metres) => [1, metres],
+        Length::Open => [2, 0],
+    };
+    let target = match step.target {
+        Target::Free => [0, 0, 0, 0],
+        Target::Ftp { low, high } => [1, low.into(), high.into(), 0],
+        Target::Watts { low, high } => [2, low.into(), high.into(), 0],
+        Target::HeartZone(zone) => [3, zone.into(), 0, 0],
+        Target::Lthr { low, high } => [4, low.into(), high.into(), 0],
+        Target::Cadence { low, high } => [5, low.into(), high.into(), 0],
+        Target::Ramp { start, step, every } => [6, start.into(), step.into(), every.into()],
+        Target::FtpRamp { start, step, every } => [7, start.into(), step.into(), every.into()],
+    };
+    [&[intensity], &length[..], &target, &name_words(&step.note)].concat()
+}
+
+fn file_words(file: &[u8]) -> Vec<u32> {
+    let workout = match codec::decode(file) {
+        Ok(workout) => workout,
+        Err(error) => return vec![decode_number(error)],
+    };
+    let test = match workout.test {
+        None => 0,
+        Some(Test::Twenty) => 1,
+        Some(Test::Ramp) => 2,
+    };
+    let mut words = vec![0, test, workout.steps().len() as u32, workout.blocks().len() as u32];
+    words.extend(name_words(&workout.name));
+    words.extend(workout.steps().iter().flat_map(step_words));
+    words.extend(workout.blocks().iter().map(|block| word(&[block.first, block.len, block.count, 0], 0)));
+    words.extend(order(&workout));
+    words
+}
+
+fn written_words(file: &[u8]) -> Vec<u32> {
+    let Ok(workout) = codec::decode(file) else {
+        return Vec::new();
+    };
+    let written = codec::encode(&workout);
+    let mut out = [FILL; LENT];
+    out[..written.len()].copy_from_slice(&written);
+    written_answer(written.len() as u32, &out)
+}
+
+/// The answer to `written` from its length and the bytes lent.
+pub fn written_answer(size: u32, out: &[u8; LENT]) -> Vec<u32> {
+    let mut words = vec![size];
+    let last = ((size as usize).div_ceil(4) + 2).min(LENT / 4);
+    words.extend((0..last).map(|place| word(out, place)));
     words
 }
 
@@ -191,6 +289,8 @@ pub fn answer(question: usize, input: &[u8]) -> Vec<u32> {
             }
             words
         }
+        FILE => file_words(input),
+        WRITTEN => written_words(input),
         _ => panic!("there is no question {question}"),
     }
 }

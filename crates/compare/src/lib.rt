@@ -344,7 +344,7 @@ fn name_word(name: Name, place: u32) -> u32
 }
 
 // 0, or the number of the question that refuses the workout.
-fn refused_number(answer: Answer) -> u32
+pub fn refused_number(answer: Answer) -> u32
     ensures { λ r. ⌜ r ≡ answerNumber answer ⌝ }
 {
     match answer {
@@ -367,7 +367,7 @@ fn played_word(option: PlayedOption) -> u32
     }
 }
 
-fn order_word(workout: Workout, place: u32) -> u32
+pub fn order_word(workout: Workout, place: u32) -> u32
     ensures { λ r. ⌜ r ≡ orderWord workout place ⌝ }
 {
     match place {

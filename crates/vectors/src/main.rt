@@ -60,7 +60,8 @@ fn all_agree(question: u32, input: &[u8], answer: &[u8], words: u32) -> bool
     let mut same = true;
     let mut i = 0;
     while i < words {
-        same = same & (compare::compare_answer(question, input, i) == compare::word_at(answer, i));
+        same = same
+            & (compare_files::question_word(question, input, i) == compare::word_at(answer, i));
         i += 1;
     }
     same
@@ -162,7 +163,7 @@ fn main() {
         os::fail(path);
         return;
     }
-    let mut bytes = [0u8; 262144];
+    let mut bytes = [0u8; 524288];
     let size = io::read_full(file, &mut bytes);
     libc::close(file);
     let list = &bytes[..size];
@@ -177,4 +178,6 @@ fn main() {
     report(8, b"name", list);
     report(9, b"validate", list);
     report(10, b"order", list);
+    report(11, b"file", list);
+    report(12, b"written", list);
 }

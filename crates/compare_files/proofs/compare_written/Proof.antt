@@ -1,0 +1,26 @@
+-- `compare_files::compare_written` writes what is read, from what its callees ensure.
+use mathlib.Core.Path.{_∙_, ap}
+use borrow.Author.Needs.{needs}
+use Rattle.compare_files.specs.Files.{encodedNumber}
+use Rattle.compare_files.proofs.compare_written.Statement.{statement}
+use Rattle.compare_files.proofs.compare_written.Tie as tie
+
+decode-requires : tie.Need-decode-requires
+decode-requires c κs = search needs
+
+encode-requires : tie.Need-encode-requires
+encode-requires c κs = search needs
+
+encoded-number-requires : tie.Need-encoded-number-requires
+encoded-number-requires c κs = search needs
+
+same-length : tie.Need-same-length
+same-length c = search needs
+
+returns : tie.Need-returns
+returns c = (rw (← c .before .before .before .before .before .before .decode .ensures) (c .encoded-number .ensures ∙ ap encodedNumber (c .before .before .before .encode .ensures .0)), rw (← c .before .before .before .before .before .before .decode .ensures) (c .before .before .before .encode .ensures .1))
+
+pub compare-written-spec : {M : Type 1} → statement M
+compare-written-spec =
+    tie.close
+    (tie.spec decode-requires encode-requires encoded-number-requires same-length returns)
