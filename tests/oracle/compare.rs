@@ -1,18 +1,14 @@
-//! Both sides at once: the Rust, and the Rattle of crates `compare` and `compare_files` from their static libraries, on every
-//! limit, on random inputs and on workout files, whole, damaged and random. Words: how many random inputs and as many random
-//! files (default 1,000,000), the seed (default 1). Writes a line for each question, and how many files each question of
-//! document 01 refused. Fails where an answer differs, and where one of the refusals 1 to 9 wasn't met.
+//! Both sides at once: the Rust, and the Rattle of crates `compare` and `compare_files` from a static library, on every limit,
+//! on random inputs and on workout files, whole, damaged and random. Words: how many random inputs and as many random files,
+//! and the seed. Writes a line for each question, and how many files each question of document 01 refused. Fails where an
+//! answer differs, and where one of the refusals 1 to 9 wasn't met.
 use inputs::{Random, files, limit_inputs, random_input};
 use questions::{FILE, FILL, LENT, NAMES, WRITTEN, answer, written_answer};
 
-#[link(name = "compare", kind = "static")]
-unsafe extern "C" {
-    /// Word `place` of the answer. A slice goes as its pointer and its length.
-    safe fn compare_answer(question: u32, input: *const u8, length: usize, place: u32) -> u32;
-}
-
 #[link(name = "compare_files", kind = "static")]
 unsafe extern "C" {
+    /// Word `place` of the answer. A slice goes as its pointer and its length.
+    safe fn question_word(question: u32, input: *const u8, length: usize, place: u32) -> u32;
     /// As many words of the answer on a file as there are places for.
     safe fn compare_file(file: *const u8, length: usize, answer: *mut u32, places: usize);
     /// What is read of a file, written again: how many bytes, or the number of the question that refuses, at most 20.
@@ -37,7 +33,7 @@ fn ours(question: usize, input: &[u8], words: usize) -> Vec<u32> {
             written_answer(size, &out)
         }
         _ => {
-            (0..words as u32).map(|place| compare_answer(question as u32, input.as_ptr(), input.len(), place)).collect()
+            (0..words as u32).map(|place| question_word(question as u32, input.as_ptr(), input.len(), place)).collect()
         }
     }
 }
@@ -109,8 +105,8 @@ fn shown(question: usize, input: &[u8]) -> Vec<u32> {
 
 fn main() {
     let numbers: Vec<u64> = std::env::args().skip(1).map(|word| word.parse().expect("COUNT SEED")).collect();
-    let count = numbers.first().copied().unwrap_or(1_000_000);
-    let mut random = Random(numbers.get(1).copied().unwrap_or(1));
+    let [count, seed] = numbers[..] else { panic!("COUNT SEED") };
+    let mut random = Random(seed);
     let mut tallies = [Tally::default(); NAMES.len()];
     for question in 0..FILE {
         for input in limit_inputs(question) {

@@ -460,8 +460,7 @@ fn order_answer(input: &[u8], place: u32) -> u32
 }
 
 // The word at a place of the answer to a question.
-#[no_mangle]
-pub extern "C" fn compare_answer(question: u32, input: &[u8], place: u32) -> u32
+pub fn compare_answer(question: u32, input: &[u8], place: u32) -> u32
     ensures { λ r. ⌜ r ≡ answerWord question (now (input .entry)) place ⌝ }
 {
     match question {

@@ -1,6 +1,6 @@
 // Answers of this repository to the questions on workout files (tests/oracle/questions.rs), for tests only: what is read of a
-// file, and what writing that again gives. Whole answers for the comparison; one word at a time, beside those of `compare`,
-// for the fixed list.
+// file, and what writing that again gives. Whole answers for the comparison; one word at a time, beside the questions of
+// `compare`, for those and for the fixed list.
 ghost use mathlib.Core.Path.{_≡_};
 ghost use Prim.Native.Nat.{min};
 ghost use lib.ListN.{length};
@@ -111,7 +111,7 @@ fn body_word(workout: Workout, place: u32) -> u32
     }
 }
 
-fn file_word(read: Decoded, place: u32) -> u32
+pub fn file_word(read: Decoded, place: u32) -> u32
     ensures { λ r. ⌜ r ≡ fileWord read place ⌝ }
 {
     let workout = read.workout;
@@ -170,7 +170,8 @@ fn written_word(file: &[u8], place: u32) -> u32
 }
 
 // The word at a place of the answer to any question.
-pub fn question_word(question: u32, input: &[u8], place: u32) -> u32
+#[no_mangle]
+pub extern "C" fn question_word(question: u32, input: &[u8], place: u32) -> u32
     ensures { λ r. ⌜ r ≡ questionWord question (now (input .entry)) place ⌝ }
 {
     match question {
