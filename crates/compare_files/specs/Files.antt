@@ -79,7 +79,7 @@ fileWord read place = cond (ltb place 10) (headWord read place) (bodyWord (read 
 abbrev pub filled : (ℕ → ℕ) → List ℕ → ℕ → List ℕ
 filled word answer n = map word (range 0 n) ++ drop n answer
 
--- the length written, or the number of the question that refuses
+-- the length written, in 32 bits, or the number of the question that refuses
 abbrev pub encodedNumber : Encoded → ℕ
 encodedNumber (encoded.Written size) = size % 4294967296
 encodedNumber (encoded.Refused refusal) = numberOf refusal
