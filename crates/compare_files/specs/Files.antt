@@ -9,23 +9,16 @@ use Rattle.compare.specs.Answers.{orderWord, answerWord}
 use Rattle.compare.specs.Input.{wordAt}
 use Rattle.decode.specs.Decode.{decodeOf}
 use Rattle.decode.specs.declared.Decoded.{Decoded}
-use Rattle.encode.specs.Encode.{encodedOf, outputOf}
+use Rattle.encode.specs.Encode.{testKind, encodedOf, outputOf}
 use Rattle.encode.specs.declared.Encoded.{Encoded}
 use Rattle.encode.specs.declared.Encoded.the-variants as encoded
 use Rattle.model.specs.Workout.{noStep, noBlock}
 use Rattle.model.specs.declared.Block.{Block}
 use Rattle.model.specs.declared.Step.{Step}
-use Rattle.model.specs.declared.Test.{Test}
-use Rattle.model.specs.declared.Test.the-variants as tests
 use Rattle.model.specs.declared.Workout.{Workout}
 use Rattle.names.specs.declared.Name.{Name}
 use Rattle.refusal.specs.Number.{numberOf, answerNumber}
 use Rattle.steps.specs.Bytes.{intensityKind, lengthKind, lengthValue, targetKind, firstValue, secondValue, thirdValue}
-
-abbrev pub testNumber : Test → ℕ
-testNumber tests.None = 0
-testNumber tests.Twenty = 1
-testNumber tests.Ramp = 2
 
 -- a name: its length, then its 20 bytes, four to a word
 unfoldable pub textWord : Name → ℕ → ℕ
@@ -34,7 +27,7 @@ textWord name place = getD (name .len ∷ []) place (wordAt (name .bytes) (place
 -- 10 words: refusal, test, counts, name
 abbrev pub headFacts : Decoded → List ℕ
 headFacts read =
-    answerNumber (read .answer) ∷ testNumber (read .workout .test) ∷ read .workout .«step_count» ∷ read .workout .«block_count» ∷ []
+    answerNumber (read .answer) ∷ testKind (read .workout .test) ∷ read .workout .«step_count» ∷ read .workout .«block_count» ∷ []
 
 unfoldable pub headWord : Decoded → ℕ → ℕ
 headWord read place = getD (headFacts read) place (textWord (read .workout .name) (place - 4))

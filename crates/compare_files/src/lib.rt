@@ -6,7 +6,7 @@ ghost use Prim.Native.Nat.{min};
 ghost use lib.ListN.{length};
 ghost use Rattle.decode.specs.Decode.{decodeOf};
 ghost use Rattle.encode.specs.Encode.{encodedOf, outputOf};
-ghost use Rattle.compare_files.specs.Files.{testNumber, textWord, headWord, stepWord, blockWord, restWord, bodyWord, fileWord, filled, encodedNumber, writtenWord, questionWord};
+ghost use Rattle.compare_files.specs.Files.{textWord, headWord, stepWord, blockWord, restWord, bodyWord, fileWord, filled, encodedNumber, writtenWord, questionWord};
 use common::least;
 use compare::compare_answer;
 use compare::order_word;
@@ -16,21 +16,11 @@ use decode::Decoded;
 use decode::decode;
 use encode::Encoded;
 use encode::encode;
+use encode::test_kind;
 use model::Block;
 use model::Step;
-use model::Test;
 use model::Workout;
 use names::Name;
-
-fn test_number(test: Test) -> u32
-    ensures { λ r. ⌜ r ≡ testNumber test ⌝ }
-{
-    match test {
-        Test::None => 0,
-        Test::Twenty => 1,
-        Test::Ramp => 2,
-    }
-}
 
 // A name's length, then its 20 bytes, four to a word.
 fn text_word(name: Name, place: u32) -> u32
@@ -52,7 +42,7 @@ fn head_word(read: Decoded, place: u32) -> u32
     let name = workout.name;
     match place {
         0 => refused_number(answer),
-        1 => test_number(test),
+        1 => test_kind(test) as u32,
         2 => workout.step_count as u32,
         3 => workout.block_count as u32,
         _ => text_word(name, place - 4),

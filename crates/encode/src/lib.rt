@@ -22,7 +22,7 @@ pub enum Encoded {
     Refused(Refusal),
 }
 
-fn test_kind(test: Test) -> u8
+pub fn test_kind(test: Test) -> u8
     ensures { λ r. ⌜ r ≡ testKind test ⌝ }
 {
     match test {

@@ -10,14 +10,17 @@ use Rattle.compare_files.proofs.head_word.Tie as tie
 refused-number-requires : tie.Need-refused-number-requires
 refused-number-requires c κs = search needs
 
-test-number-requires : tie.Need-test-number-requires
-test-number-requires c κs = search needs
+test-kind-requires : tie.Need-test-kind-requires
+test-kind-requires c κs = search needs
 
 cast-result : tie.Need-cast-result
 cast-result c = search needs
 
 cast-result-2 : tie.Need-cast-result-2
 cast-result-2 c = search needs
+
+cast-result-3 : tie.Need-cast-result-3
+cast-result-3 c = search needs
 
 sub-text-word : tie.Need-sub-text-word
 sub-text-word c = search needs
@@ -31,7 +34,7 @@ returns c = rw (c .before .match .keys1) (c .refused-number .ensures)
 
 returns-2 : tie.Need-returns-2
 unfolding headWord
-returns-2 c = rw (c .before .match .keys2) (c .test-number .ensures)
+returns-2 c = rw (c .before .match .keys2) (c .test-kind .ensures)
 
 returns-3 : tie.Need-returns-3
 unfolding headWord
@@ -50,9 +53,10 @@ head-word-spec =
     tie.close
     (tie.spec
     refused-number-requires
-    test-number-requires
+    test-kind-requires
     cast-result
     cast-result-2
+    cast-result-3
     sub-text-word
     text-word-requires
     returns
