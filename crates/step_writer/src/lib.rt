@@ -11,7 +11,7 @@ use model::Step;
 use model::Target;
 use names::Name;
 
-fn intensity_kind(intensity: Intensity) -> u8
+pub fn intensity_kind(intensity: Intensity) -> u8
     ensures { λ r. ⌜ r ≡ intensityKind intensity ⌝ }
 {
     match intensity {
@@ -23,7 +23,7 @@ fn intensity_kind(intensity: Intensity) -> u8
     }
 }
 
-fn length_kind(lasts: Length) -> u8
+pub fn length_kind(lasts: Length) -> u8
     ensures { λ r. ⌜ r ≡ lengthKind lasts ⌝ }
 {
     match lasts {
@@ -33,7 +33,7 @@ fn length_kind(lasts: Length) -> u8
     }
 }
 
-fn length_value(lasts: Length) -> u32
+pub fn length_value(lasts: Length) -> u32
     ensures { λ r. ⌜ r ≡ lengthValue lasts ⌝ }
 {
     match lasts {
@@ -44,14 +44,14 @@ fn length_value(lasts: Length) -> u32
 }
 
 // A target's kind and its three values.
-struct Values {
-    kind: u8,
-    a: u16,
-    b: u16,
-    c: u16,
+pub struct Values {
+    pub kind: u8,
+    pub a: u16,
+    pub b: u16,
+    pub c: u16,
 }
 
-fn values_of(target: Target) -> Values
+pub fn values_of(target: Target) -> Values
     ensures { λ r. ⌜ r ≡ record { kind = targetKind target; a = firstValue target; b = secondValue target; c = thirdValue target } ⌝ }
 {
     match target {
