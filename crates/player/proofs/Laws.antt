@@ -1,0 +1,217 @@
+-- The calls, outcome by outcome.
+use mathlib.Core.Path.{_≡_, refl, sym, ap, subst, _∙_}
+use mathlib.Core.Bool.{Bool, true, false, cond}
+use mathlib.Core.List.{List}
+use Prim.Native.Nat.{ℕ, _+_, _≤_, _<_}
+use native.Mathlib.Omega.{arith}
+use lib.Dec.{leb}
+use borrow.Author.Tests.{leb-true, le-leb, lt-leb, eq-eqb, ne-eqb}
+use Rattle.common.proofs.Tests.{and-left, and-right}
+use Rattle.refusal.specs.declared.Answer.{Answer}
+use Rattle.refusal.specs.declared.Answer.the-variants.{Accepted, Refused}
+use Rattle.refusal.specs.declared.Refusal.{Refusal}
+use Rattle.refusal.specs.declared.Refusal.the-variants as refusals
+use Rattle.refusal.specs.Number.{ask}
+use Rattle.zones.specs.declared.TrainingProfile.{TrainingProfile}
+use Rattle.zones.specs.Zones.{profileOk}
+use Rattle.model.specs.declared.Workout.{Workout}
+use Rattle.order.specs.Order.{playedLen}
+use Rattle.events.proofs.Laws.{wrote-none}
+use Rattle.state.specs.declared.Core.{Core}
+use Rattle.state.specs.declared.Player.{Player}
+use Rattle.step_end.specs.declared.Moved.{Moved}
+use Rattle.step_end.specs.StepEnd.{Moves, nextOf}
+use Rattle.rounds.specs.declared.Ride.{Ride}
+use Rattle.rounds.specs.Rounds.{riding, rounds}
+use Rattle.rounds.specs.Contracted.{Rides, Ridden}
+use Rattle.rounds.proofs.Keeps.{valid-is, ask-left, ask-right}
+use Rattle.standing.specs.Standing.{standingOf, onPlace}
+use Rattle.standing.specs.Facts.{Within, Stands}
+use Rattle.standing.proofs.Known.{known}
+use Rattle.player.specs.declared.Update.{Update}
+use Rattle.player.specs.Calls.{Called, Answers, Supposes, quiet, calm, answered, playerOf, updateOk, totalsWith, placesOk, updateAnswer, totalled, rideBy, rodeTo, rideNow, rideAnswer, rideOf, skipTo, skipNow, skipAnswer, skipOf}
+
+-- a profile that passes its question, and one that does not
+pub sound-yes : (ok : Bool) (r : Refusal) → ask ok r Accepted ≡ Accepted → true ≡ ok
+sound-yes ok r e = sym (ask-left ok r Accepted e)
+
+pub sound-no : (ok : Bool) (r s : Refusal) → ask ok r Accepted ≡ Refused s → false ≡ ok
+sound-no false r s e = refl
+sound-no true r s e = absurd (let z : _≡_ {A = ℕ} 0 1 = cc in omega arith)
+
+-- a call without events
+pub calm-answers : (ks vs : List ℕ) (p : Player) (u : Update) (o : Called) (a : Answer) → u ≡ quiet a p → calm a p ≡ o → Answers ks vs ks vs u o
+calm-answers ks vs p u o a e f =
+    subst (λ (o : Called). Answers ks vs ks vs u o) f
+    (subst (λ (u : Update). Answers ks vs ks vs u (calm a p)) (sym e) (record { answer = refl; player = refl; parts = refl; wrote = wrote-none ks vs 0 }))
+
+-- what passing questions 12 to 14 says
+pub update-passed : (w : Workout) (c : Core) (ms mm k v : ℕ) → Stands 0 0 w c → updateAnswer c ms mm k v ≡ Accepted → Supposes w c ms mm k v
+unfolding updateAnswer
+update-passed w c ms mm k v h e =
+    let q14 : Answer = ask (placesOk c k v) refusals.EventPlaces Accepted in
+    let q13 : Answer = ask (totalsWith c ms mm) refusals.Totals q14 in
+    let e13 : q13 ≡ Accepted = ask-right (updateOk ms mm) refusals.Update q13 e in
+    let e14 : q14 ≡ Accepted = ask-right (totalsWith c ms mm) refusals.Totals q14 e13 in
+    let a : updateOk ms mm ≡ true = ask-left (updateOk ms mm) refusals.Update q13 e in
+    let b : totalsWith c ms mm ≡ true = ask-left (totalsWith c ms mm) refusals.Totals q14 e13 in
+    let d : placesOk c k v ≡ true = ask-left (placesOk c k v) refusals.EventPlaces Accepted e14 in
+    record {
+      stands = h;
+      ms-in = leb-true ms 86400000 (and-left (leb ms 86400000) (leb mm 1000000000) a);
+      mm-in = leb-true mm 1000000000 (and-right (leb ms 86400000) (leb mm 1000000000) a);
+      total-ms = leb-true (c .«total_ms» .0 + ms) 604800000 (and-left (leb (c .«total_ms» .0 + ms) 604800000) (leb (c .«total_mm» .0 + mm) 7000000000) b);
+      total-mm = leb-true (c .«total_mm» .0 + mm) 7000000000 (and-right (leb (c .«total_ms» .0 + ms) 604800000) (leb (c .«total_mm» .0 + mm) 7000000000) b);
+      kinds-in = leb-true 193 k (and-left (leb 193 k) (leb 193 v) d);
+      values-in = leb-true 193 v (and-right (leb 193 k) (leb 193 v) d);
+    }
+
+-- the totals grow by what is then still to be ridden
+pub totalled-stands : (w : Workout) (c : Core) (ms mm : ℕ) → Stands 0 0 w c → c .«total_ms» .0 + ms ≤ 604800000 → c .«total_mm» .0 + mm ≤ 7000000000
+    → Stands ms mm w (totalled ms mm c)
+unfolding onPlace
+totalled-stands w c ms mm s a b =
+    let h : Within 0 0 w c = s .within in
+    record {
+      within =
+          record {
+            valid = h .valid;
+            steps = h .steps;
+            summary-steps = h .summary-steps;
+            steps-done = h .steps-done;
+            skipped = h .skipped;
+            position = h .position;
+            done = h .done;
+            finished = h .finished;
+            step = h .step;
+            tallies = h .tallies;
+            targeted = omega (arith, h .targeted);
+            step-ms = omega (arith, h .step-ms);
+            step-mm = omega (arith, h .step-mm);
+            energy = h .energy;
+            test-ms = omega (arith, h .test-ms);
+            low = omega (arith, h .low);
+            rest = h .rest;
+            place = h .place;
+            long = h .long;
+            next = h .next;
+            cadence = h .cadence;
+            total-ms = a;
+            total-mm = b;
+          };
+      lap = s .lap;
+    }
+
+-- a ride's start
+pub start-rides : (w : Workout) (c : Core) (ms mm k v : ℕ) → Supposes w c ms mm k v
+    → Rides w (record { core = totalled ms mm c; ms = record { 0 = ms }; mm = record { 0 = mm }; count = 0; parts = 0 }) k v
+start-rides w c ms mm k v s =
+    let few : playedLen w ≤ 96 = valid-is w (s .stands .within .valid) .few in
+    record {
+      stands = totalled-stands w c ms mm (s .stands) (s .total-ms) (s .total-mm);
+      ms = s .ms-in;
+      mm = s .mm-in;
+      parts = omega arith;
+      kinds = λ _. omega (arith, s .kinds-in);
+      values = λ _. omega (arith, s .values-in);
+    }
+
+module _ (p : Player) (ms mm : ℕ) (f : TrainingProfile) where
+  pub ride-idle : ms ≡ 0 → calm Accepted p ≡ rideNow p ms mm f
+  unfolding rideNow
+  ride-idle e =
+      sym (ap (λ (b : Bool). rideBy b p (rounds (p .workout) f 97 ms mm (riding (totalled ms mm (p .core)) (p .minute)))) (eq-eqb ms 0 e))
+
+  ride-rode : (ms ≡ 0 → ⊥) → rodeTo (p .workout) (rounds (p .workout) f 97 ms mm (riding (totalled ms mm (p .core)) (p .minute))) ≡ rideNow p ms mm f
+  unfolding rideNow
+  ride-rode e =
+      sym (ap (λ (b : Bool). rideBy b p (rounds (p .workout) f 97 ms mm (riding (totalled ms mm (p .core)) (p .minute)))) (ne-eqb ms 0 e))
+
+  pub ride-made : {m' ks vs ks' vs' : List ℕ} (r : Ride) (q : Player) → (ms ≡ 0 → ⊥)
+      → Ridden (p .workout) f (p .minute) m' ks vs ks' vs' (record { core = totalled ms mm (p .core); ms = record { 0 = ms }; mm = record { 0 = mm }; count = 0; parts = 0 }) r
+      → q ≡ playerOf (p .workout) (riding (r .core) m')
+      → Answers ks vs ks' vs' (record { answer = Accepted; player = q; events = r .count; parts = r .parts }) (rideNow p ms mm f)
+  ride-made {m' = m'} {ks = ks} {vs = vs} {ks' = ks'} {vs' = vs'} r q e o eq =
+      subst (λ (k : Called). Answers ks vs ks' vs' (record { answer = Accepted; player = q; events = r .count; parts = r .parts }) k) (ride-rode e)
+      (record { answer = refl; player = eq ∙ ap (playerOf (p .workout)) (o .riding-is); parts = omega (arith, o .parts); wrote = o .wrote })
+
+  module _ (k v : ℕ) where
+    pub ride-20 : standingOf p ≡ false → calm (Refused refusals.Standing) p ≡ rideOf p ms mm f k v
+    unfolding rideOf rideAnswer
+    ride-20 e = sym (ap (λ (b : Bool). answered (ask b refusals.Standing (ask (profileOk f) refusals.Profile (updateAnswer (p .core) ms mm k v))) p (rideNow p ms mm f)) e)
+
+    past-20 : standingOf p ≡ true → rideOf p ms mm f k v ≡ answered (ask (profileOk f) refusals.Profile (updateAnswer (p .core) ms mm k v)) p (rideNow p ms mm f)
+    unfolding rideOf rideAnswer
+    past-20 e = ap (λ (b : Bool). answered (ask b refusals.Standing (ask (profileOk f) refusals.Profile (updateAnswer (p .core) ms mm k v))) p (rideNow p ms mm f)) e
+
+    pub ride-10 : standingOf p ≡ true → profileOk f ≡ false → calm (Refused refusals.Profile) p ≡ rideOf p ms mm f k v
+    ride-10 e g = sym (past-20 e ∙ ap (λ (b : Bool). answered (ask b refusals.Profile (updateAnswer (p .core) ms mm k v)) p (rideNow p ms mm f)) g)
+
+    past-10 : standingOf p ≡ true → profileOk f ≡ true → rideOf p ms mm f k v ≡ answered (updateAnswer (p .core) ms mm k v) p (rideNow p ms mm f)
+    past-10 e g = past-20 e ∙ ap (λ (b : Bool). answered (ask b refusals.Profile (updateAnswer (p .core) ms mm k v)) p (rideNow p ms mm f)) g
+
+    pub ride-refused : (r : Refusal) → standingOf p ≡ true → profileOk f ≡ true → updateAnswer (p .core) ms mm k v ≡ Refused r → calm (Refused r) p ≡ rideOf p ms mm f k v
+    ride-refused r e g u = sym (past-10 e g ∙ ap (λ (a : Answer). answered a p (rideNow p ms mm f)) u)
+
+    pub ride-taken : standingOf p ≡ true → profileOk f ≡ true → updateAnswer (p .core) ms mm k v ≡ Accepted → rideNow p ms mm f ≡ rideOf p ms mm f k v
+    ride-taken e g u = sym (past-10 e g ∙ ap (λ (a : Answer). answered a p (rideNow p ms mm f)) u)
+
+-- A skip.
+
+pub skip-idle : (p : Player) → p .core .done ≡ true → calm Accepted p ≡ skipNow p
+unfolding skipNow
+skip-idle p e = sym (ap (λ (b : Bool). cond b (calm Accepted p) (skipTo p (nextOf (p .workout) true (p .core)))) e)
+
+skip-moved : (p : Player) → p .core .done ≡ false → skipTo p (nextOf (p .workout) true (p .core)) ≡ skipNow p
+unfolding skipNow
+skip-moved p e = sym (ap (λ (b : Bool). cond b (calm Accepted p) (skipTo p (nextOf (p .workout) true (p .core)))) e)
+
+pub skip-made : {ks vs ks' vs' : List ℕ} (p : Player) (r : Moved) (q : Player) → p .core .done ≡ false
+    → Moves ks vs 0 ks' vs' r (nextOf (p .workout) true (p .core)) → q ≡ playerOf (p .workout) (riding (r .core) (p .minute))
+    → Answers ks vs ks' vs' (record { answer = Accepted; player = q; events = r .count; parts = 0 }) (skipNow p)
+skip-made {ks} {vs} {ks'} {vs'} p r q d o eq =
+    subst (λ (k : Called). Answers ks vs ks' vs' (record { answer = Accepted; player = q; events = r .count; parts = 0 }) k) (skip-moved p d)
+    (record { answer = refl; player = eq ∙ ap (λ (c : Core). playerOf (p .workout) (riding c (p .minute))) (o .core); parts = refl; wrote = o .wrote })
+
+module _ (p : Player) (k v : ℕ) where
+  pub skip-20 : standingOf p ≡ false → calm (Refused refusals.Standing) p ≡ skipOf p k v
+  unfolding skipOf skipAnswer
+  skip-20 e = sym (ap (λ (b : Bool). answered (ask b refusals.Standing (ask (placesOk (p .core) k v) refusals.EventPlaces Accepted)) p (skipNow p)) e)
+
+  skip-past : standingOf p ≡ true → skipOf p k v ≡ answered (ask (placesOk (p .core) k v) refusals.EventPlaces Accepted) p (skipNow p)
+  unfolding skipOf skipAnswer
+  skip-past e = ap (λ (b : Bool). answered (ask b refusals.Standing (ask (placesOk (p .core) k v) refusals.EventPlaces Accepted)) p (skipNow p)) e
+
+  pub skip-14 : standingOf p ≡ true → placesOk (p .core) k v ≡ false → calm (Refused refusals.EventPlaces) p ≡ skipOf p k v
+  skip-14 e g = sym (skip-past e ∙ ap (λ (b : Bool). answered (ask b refusals.EventPlaces Accepted) p (skipNow p)) g)
+
+  pub skip-taken : standingOf p ≡ true → placesOk (p .core) k v ≡ true → skipNow p ≡ skipOf p k v
+  skip-taken e g = sym (skip-past e ∙ ap (λ (b : Bool). answered (ask b refusals.EventPlaces Accepted) p (skipNow p)) g)
+
+-- a skip supposes nothing of an update
+pub skip-supposes : (p : Player) (k v : ℕ) → standingOf p ≡ true → 193 ≤ k → 193 ≤ v → Supposes (p .workout) (p .core) 0 0 k v
+skip-supposes p k v e a b =
+    let h : Stands 0 0 (p .workout) (p .core) = known p e .core in
+    record {
+      stands = h;
+      ms-in = omega arith;
+      mm-in = omega arith;
+      total-ms = omega (arith, h .within .total-ms);
+      total-mm = omega (arith, h .within .total-mm);
+      kinds-in = a;
+      values-in = b;
+    }
+
+pub answers-is : {ks vs ks' vs' : List ℕ} {u : Update} {o o' : Called} → o ≡ o' → Answers ks vs ks' vs' u o → Answers ks vs ks' vs' u o'
+answers-is {ks} {vs} {ks'} {vs'} {u} e a = subst (λ (k : Called). Answers ks vs ks' vs' u k) e a
+
+-- question 14
+module _ (c : Core) (k v : ℕ) where
+  pub few-kinds : k < 193 → placesOk c k v ≡ false
+  few-kinds h = rw (lt-leb 193 k h)
+
+  pub few-values : 193 ≤ k → v < 193 → placesOk c k v ≡ false
+  few-values a h = rw (le-leb 193 k a, lt-leb 193 v h)
+
+  pub enough-places : 193 ≤ k → 193 ≤ v → placesOk c k v ≡ true
+  enough-places a b = rw (le-leb 193 k a, le-leb 193 v b)

@@ -1,0 +1,248 @@
+// player.rs's calls that change the player: `read`, ride (the loop of `add` without its `read`), `add`, `skip` and `extend`, with
+// document 01's questions in their order. Each takes the player and gives it back.
+ghost use mathlib.Core.Path.{_≡_};
+ghost use Prim.Native.Nat.{_+_, _≤_};
+ghost use lib.ListN.{length, getD};
+ghost use Rattle.model.specs.Workout.{noStep};
+ghost use Rattle.zones.specs.Zones.{profileOk};
+ghost use Rattle.rounds.specs.Rounds.{riding};
+ghost use Rattle.player.specs.Calls.{quiet, playerOf, updateAnswer, totalled, withCore, rideNow, rideOf, readOf, skipNow, skipOf, Answers, Supposes};
+use model::Step;
+use model::Workout;
+use names::Name;
+use readings::Sample;
+use refusal::Answer;
+use refusal::Refusal;
+use rounds::Ride;
+use rounds::ride_rounds;
+use standing::cadence_in;
+use standing::is_standing;
+use state::Core;
+use state::Mm;
+use state::Ms;
+use state::Player;
+use step_end::next;
+use zones::TrainingProfile;
+
+// What a call gives: its answer, the player after it, the number of its events in the lent arrays, and the rounds that rode.
+pub struct Update {
+    pub answer: Answer,
+    pub player: Player,
+    pub events: usize,
+    pub parts: usize,
+}
+
+// What a touch gives; `extended` is player.rs's own yes or no.
+pub struct Extended {
+    pub answer: Answer,
+    pub player: Player,
+    pub extended: bool,
+}
+
+// A call without events or parts.
+fn plain(player: Player, answer: Answer) -> Update
+    ensures { λ r. ⌜ r ≡ quiet answer player ⌝ }
+{
+    Update {
+        answer,
+        player,
+        events: 0,
+        parts: 0,
+    }
+}
+
+fn note_at(steps: [Step; 12], index: u8) -> Name
+    ensures { λ r. ⌜ r ≡ getD steps index noStep .note ⌝ }
+{
+    let i = index as usize;
+    if i < 12 {
+        let step = steps[i];
+        return step.note;
+    }
+    Name::empty()
+}
+
+// The player of a core and its minute; the note is that of the step on now.
+fn player_of(workout: Workout, core: Core, minute: [u16; 60]) -> Player
+    ensures { λ r. ⌜ r ≡ playerOf workout (riding core minute) ⌝ }
+{
+    let on = core.on;
+    let steps = workout.steps;
+    let note = note_at(steps, on.index);
+    Player {
+        core,
+        workout,
+        note,
+        minute,
+    }
+}
+
+// Question 10.
+fn is_sound(profile: TrainingProfile) -> bool
+    ensures { λ r. ⌜ r ≡ profileOk profile ⌝ }
+{
+    match profile.check() {
+        Answer::Accepted => true,
+        Answer::Refused(_) => false,
+    }
+}
+
+// Questions 12 to 14.
+fn update_answer(core: Core, ms: Ms, mm: Mm, kinds: usize, values: usize) -> Answer
+    requires { ⌜ (core .«total_ms» .0 ≤ 604800000) × (core .«total_mm» .0 ≤ 7000000000) ⌝ }
+    ensures { λ r. ⌜ r ≡ updateAnswer core (ms .0) (mm .0) kinds values ⌝ }
+{
+    if 86400000 < ms.0 {
+        return Answer::Refused(Refusal::Update);
+    }
+    if 1000000000 < mm.0 {
+        return Answer::Refused(Refusal::Update);
+    }
+    if 604800000 < core.total_ms.0 + ms.0 {
+        return Answer::Refused(Refusal::Totals);
+    }
+    if 7000000000 < core.total_mm.0 + mm.0 {
+        return Answer::Refused(Refusal::Totals);
+    }
+    if kinds < 193 {
+        return Answer::Refused(Refusal::EventPlaces);
+    }
+    if values < 193 {
+        return Answer::Refused(Refusal::EventPlaces);
+    }
+    Answer::Accepted
+}
+
+fn add_totals(core: Core, ms: Ms, mm: Mm) -> Core
+    requires { ⌜ (core .«total_ms» .0 + ms .0 ≤ 604800000) × (core .«total_mm» .0 + mm .0 ≤ 7000000000) ⌝ }
+    ensures { λ r. ⌜ r ≡ totalled (ms .0) (mm .0) core ⌝ }
+{
+    let mut q = core;
+    let total_ms = Ms(q.total_ms.0 + ms.0);
+    let total_mm = Mm(q.total_mm.0 + mm.0);
+    q.total_ms = total_ms;
+    q.total_mm = total_mm;
+    q
+}
+
+// A ride of which nothing is to be asked any more.
+fn ride_now(
+    player: Player,
+    ms: Ms,
+    mm: Mm,
+    profile: TrainingProfile,
+    kinds: &mut [u8],
+    values: &mut [u16],
+) -> Update
+    requires { ⌜ Supposes (player .workout) (player .core) (ms .0) (mm .0) (length (now kinds)) (length (now values)) ⌝ }
+    ensures { λ r. ⌜ Answers (now (kinds .entry)) (now (values .entry)) (now (kinds .exit)) (now (values .exit)) r (rideNow player (ms .0) (mm .0) profile) ⌝ }
+{
+    if ms.0 == 0 {
+        return plain(player, Answer::Accepted);
+    }
+    let workout = player.workout;
+    let core = player.core;
+    let mut minute = player.minute;
+    let begun = add_totals(core, ms, mm);
+    let start = Ride {
+        core: begun,
+        ms,
+        mm,
+        count: 0,
+        parts: 0,
+    };
+    let ride = ride_rounds(workout, profile, start, &mut minute, kinds, values);
+    let after = ride.core;
+    let ridden = player_of(workout, after, minute);
+    Update {
+        answer: Answer::Accepted,
+        player: ridden,
+        events: ride.count,
+        parts: ride.parts,
+    }
+}
+
+// Account `ms` of recorded riding over `mm` under the last reading. Riding past a step's end counts in the steps after it.
+pub fn ride(
+    player: Player,
+    ms: Ms,
+    mm: Mm,
+    profile: TrainingProfile,
+    kinds: &mut [u8],
+    values: &mut [u16],
+) -> Update
+    ensures { λ r. ⌜ Answers (now (kinds .entry)) (now (values .entry)) (now (kinds .exit)) (now (values .exit)) r (rideOf player (ms .0) (mm .0) profile (length (now (kinds .entry))) (length (now (values .entry)))) ⌝ }
+{
+    let core = player.core;
+    if !is_standing(player) {
+        return plain(player, Answer::Refused(Refusal::Standing));
+    }
+    if !is_sound(profile) {
+        return plain(player, Answer::Refused(Refusal::Profile));
+    }
+    match update_answer(core, ms, mm, kinds.len(), values.len()) {
+        Answer::Accepted => ride_now(player, ms, mm, profile, kinds, values),
+        Answer::Refused(refusal) => plain(player, Answer::Refused(refusal)),
+    }
+}
+
+fn with_core(player: Player, core: Core) -> Player
+    ensures { λ r. ⌜ r ≡ withCore core player ⌝ }
+{
+    let mut q = player;
+    q.core = core;
+    q
+}
+
+// Take `sample`'s readings, once per update.
+pub fn read(player: Player, sample: Sample) -> Update
+    ensures { λ r. ⌜ r ≡ readOf player sample ⌝ }
+{
+    let core = player.core;
+    let cadence = sample.cadence_tenths;
+    if !is_standing(player) {
+        return plain(player, Answer::Refused(Refusal::Standing));
+    }
+    if !cadence_in(cadence) {
+        return plain(player, Answer::Refused(Refusal::Cadence));
+    }
+    plain(with_core(player, core.read(sample)), Answer::Accepted)
+}
+
+// A skip of which nothing is to be asked any more.
+fn skip_now(player: Player, kinds: &mut [u8], values: &mut [u16]) -> Update
+    requires { ⌜ Supposes (player .workout) (player .core) 0 0 (length (now kinds)) (length (now values)) ⌝ }
+    ensures { λ r. ⌜ Answers (now (kinds .entry)) (now (values .entry)) (now (kinds .exit)) (now (values .exit)) r (skipNow player) ⌝ }
+{
+    let core = player.core;
+    if core.done {
+        return plain(player, Answer::Accepted);
+    }
+    let workout = player.workout;
+    let minute = player.minute;
+    let moved = next(workout, core, true, kinds, values, 0);
+    let after = moved.core;
+    let ended = player_of(workout, after, minute);
+    Update {
+        answer: Answer::Accepted,
+        player: ended,
+        events: moved.count,
+        parts: 0,
+    }
+}
+
+// The rider ends the step now, as a lap press does.
+pub fn skip(player: Player, kinds: &mut [u8], values: &mut [u16]) -> Update
+    ensures { λ r. ⌜ Answers (now (kinds .entry)) (now (values .entry)) (now (kinds .exit)) (now (values .exit)) r (skipOf player (length (now (kinds .entry))) (length (now (values .entry)))) ⌝ }
+{
+    if !is_standing(player) {
+        return plain(player, Answer::Refused(Refusal::Standing));
+    }
+    if kinds.len() < 193 {
+        return plain(player, Answer::Refused(Refusal::EventPlaces));
+    }
+    if values.len() < 193 {
+        return plain(player, Answer::Refused(Refusal::EventPlaces));
+    }
+    skip_now(player, kinds, values)
+}

@@ -1,0 +1,131 @@
+-- player.rs: readings, the three-reading average, and where a reading sits against a band.
+use mathlib.Core.Bool.{Bool, true, false, cond}
+use mathlib.Core.List.{List, [], _∷_, map}
+use Prim.Native.Nat.{ℕ, zero, suc, _+_, _/_, _%_}
+use lib.Dec.{ltb}
+use lib.ListN.{set, replicate}
+use Rattle.common.specs.Lists.{sum}
+use Rattle.zones.specs.declared.TrainingProfile.{TrainingProfile}
+use Rattle.zones.specs.Zones.{clamped, heartZone}
+use Rattle.model.specs.declared.Metric.{Metric}
+use Rattle.model.specs.declared.Metric.the-variants as metrics
+use Rattle.model.specs.declared.Band.{Band}
+use Rattle.model.specs.declared.BandOption.{BandOption}
+use Rattle.model.specs.declared.BandOption.the-variants as bands
+use Rattle.model.specs.declared.Target.{Target}
+use Rattle.model.specs.declared.Target.the-variants.{Free, Ftp, Watts, HeartZone, Lthr, Cadence, Ramp, FtpRamp}
+use Rattle.readings.specs.declared.ReadingOption.{ReadingOption}
+use Rattle.readings.specs.declared.ReadingOption.the-variants.{None, Some}
+use Rattle.readings.specs.declared.Sample.{Sample}
+use Rattle.readings.specs.declared.Power3s.{Power3s}
+use Rattle.readings.specs.declared.Readings.{Readings}
+use Rattle.readings.specs.declared.Compared.{Compared}
+use Rattle.readings.specs.declared.Compliance.{Compliance}
+use Rattle.readings.specs.declared.Compliance.the-variants.{Under, In, Over}
+use Rattle.readings.specs.declared.ComplianceOption.{ComplianceOption}
+use Rattle.readings.specs.declared.ComplianceOption.the-variants as how
+
+-- The reading, or 0.
+abbrev pub orZero : ReadingOption → ℕ
+orZero None = 0
+orZero (Some value) = value
+
+abbrev pub isSome : ReadingOption → Bool
+isSome None = false
+isSome (Some value) = true
+
+-- The average.
+
+abbrev pub noSample : Sample
+noSample = record { «power_watts» = None; «heart_bpm» = None; «cadence_tenths» = None }
+
+abbrev pub noReadings : Readings
+noReadings =
+    record {
+      «last_sample» = noSample;
+      power = record { watts = replicate 3 0; present = replicate 3 false; next = 0 };
+    }
+
+abbrev pub onePresent : Bool → ℕ
+onePresent present = cond present 1 0
+
+abbrev pub readingAt : Bool → ℕ → ReadingOption
+readingAt present watts = cond present (Some watts) None
+
+-- The readings of a window, absent ones too, in the order of its places.
+unfoldable pub window : List Bool → List ℕ → List ReadingOption
+window [] ws = []
+window (b ∷ bs) [] = []
+window (b ∷ bs) (w ∷ ws) = readingAt b w ∷ window bs ws
+
+abbrev pub countOf : ReadingOption → ℕ
+countOf r = onePresent (isSome r)
+
+-- The mean of a count of readings, rounded half up; none of none.
+unfoldable pub meanBy : ℕ → ℕ → ReadingOption
+meanBy total zero = None
+meanBy total (suc n) = Some ((total + suc n / 2) / suc n)
+
+-- "the three-reading average": the mean of those readings that are present.
+unfoldable pub average : List ReadingOption → ReadingOption
+average rs = meanBy (sum (map orZero rs)) (sum (map countOf rs))
+
+unfoldable pub averageOf : Power3s → ReadingOption
+averageOf p = average (window (p .present) (p .watts))
+
+-- "The three-reading average .. takes one reading a call." It takes the place of the oldest; an absent one has 0 watts.
+unfoldable pub added : ReadingOption → Power3s → Power3s
+added r p =
+    record {
+      watts = set (p .watts) (p .next % 3) (orZero r);
+      present = set (p .present) (p .next % 3) (isSome r);
+      next = (p .next % 3 + 1) % 3;
+    }
+
+-- player.rs, `read`: the sample's power joins the average, and the sample is the last one.
+unfoldable pub taken : Sample → Readings → Readings
+taken sample r = record { «last_sample» = sample; power = added (sample .«power_watts») (r .power) }
+
+-- The reading that a metric is checked by.
+
+-- Tenths of a turn per minute as whole turns, rounded half up.
+abbrev pub perMinute : ReadingOption → ReadingOption
+perMinute None = None
+perMinute (Some tenths) = Some ((tenths + 5) / 10)
+
+-- "for power the three-reading average, else the newest reading's"
+unfoldable pub readingOf : Metric → Readings → ReadingOption
+readingOf metrics.Power r = averageOf (r .power)
+readingOf metrics.Heart r = r .«last_sample» .«heart_bpm»
+readingOf metrics.Cadence r = perMinute (r .«last_sample» .«cadence_tenths»)
+
+-- Compliance.
+
+abbrev pub against : ℕ → ℕ → ℕ → Compliance
+against low high value = cond (ltb value low) Under (cond (ltb high value) Over In)
+
+abbrev pub byBand : Band → ℕ → Compared
+byBand band value = record { low = band .low; high = band .high; value = value }
+
+-- "For a heart zone compliance compares zones and not the band: at LTHR 160 zone 1 shows 104 to 129, and 90 bpm is In."
+abbrev pub compared : Target → Band → TrainingProfile → ℕ → Compared
+compared Free band p value = byBand band value
+compared (Ftp low high) band p value = byBand band value
+compared (Watts low high) band p value = byBand band value
+compared (HeartZone zone) band p value = record { low = clamped zone 5; high = clamped zone 5; value = heartZone p value }
+compared (Lthr low high) band p value = byBand band value
+compared (Cadence low high) band p value = byBand band value
+compared (Ramp start step every) band p value = byBand band value
+compared (FtpRamp start step every) band p value = byBand band value
+
+abbrev pub complianceBy : Compared → Compliance
+complianceBy c = against (c .low) (c .high) (c .value)
+
+unfoldable pub judged : Target → Band → TrainingProfile → ReadingOption → ComplianceOption
+judged target band p None = how.NoReading
+judged target band p (Some value) = how.Some (complianceBy (compared target band p value))
+
+-- Where the reading sits against the band, if there are both.
+unfoldable pub complianceOf : Target → BandOption → TrainingProfile → Readings → ComplianceOption
+complianceOf target bands.None p r = how.NoBand
+complianceOf target (bands.Some band) p r = judged target band p (readingOf (band .metric) r)

@@ -1,0 +1,4 @@
+pub mod Parts
+pub mod Keeps
+pub mod One
+pub mod Loop

@@ -1,0 +1,50 @@
+-- What the functions of a round suppose and give.
+use mathlib.Core.Path.{_≡_}
+use mathlib.Core.Bool.{false}
+use mathlib.Core.List.{List}
+use Prim.Native.Nat.{ℕ, _+_, _-_, _*_, _≤_}
+use Rattle.zones.specs.declared.TrainingProfile.{TrainingProfile}
+use Rattle.model.specs.declared.Workout.{Workout}
+use Rattle.order.specs.Order.{playedLen}
+use Rattle.events.specs.Events.{Wrote}
+use Rattle.state.specs.declared.Core.{Core}
+use Rattle.state.specs.declared.Part.{Part}
+use Rattle.state.specs.State.{TallyFits, untilEnd}
+use Rattle.measure.specs.Measure.{MeasureFits}
+use Rattle.standing.specs.Facts.{Stands}
+use Rattle.rounds.specs.declared.Ride.{Ride}
+use Rattle.rounds.specs.Rounds.{riding, ridingOf, roundOf, rounds, isStopped}
+
+-- No sum of a part passes its limit.
+pub record AdvanceFits (c : Core) (ms mm : ℕ) : Type 0 where
+  pub tally : TallyFits (c .summary) ms
+  pub measure : MeasureFits (c .measured) (c .lap .«step_ms» + ms) ms
+  pub way : c .lap .«step_mm» + mm ≤ 7000000000
+
+-- What a ride on its way supposes: a core that stands but for what is left, which is within question 12's limits, and places for
+-- its events, of which there are at most 2 for each step that is still to end and 1 more.
+pub record Rides (w : Workout) (s : Ride) (ks vs : ℕ) : Type 0 where
+  pub stands : Stands (s .ms .0) (s .mm .0) w (s .core)
+  pub ms : s .ms .0 ≤ 86400000
+  pub mm : s .mm .0 ≤ 1000000000
+  pub parts : s .parts ≤ 97
+  pub kinds : isStopped (s .core .done) (s .ms .0) ≡ false → s .count + 2 * (playedLen w - s .core .position) + 1 ≤ ks
+  pub values : isStopped (s .core .done) (s .ms .0) ≡ false → s .count + 2 * (playedLen w - s .core .position) + 1 ≤ vs
+
+abbrev pub partOf : Ride → Part
+partOf s = untilEnd (s .core) (s .ms .0) (s .mm .0)
+
+-- The ride after one round of it. The bound is of a sum of 16-bit readings.
+pub record Round (w : Workout) (p : TrainingProfile) (m m' ks vs ks' vs' : List ℕ) (s r : Ride) : Type 0 where
+  pub riding-is : riding (r .core) m' ≡ ridingOf (roundOf w p (partOf s) (riding (s .core) m))
+  pub ms : r .ms .0 ≡ s .ms .0 - partOf s .ms .0
+  pub mm : r .mm .0 ≡ s .mm .0 - partOf s .mm .0
+  pub parts : r .parts ≡ s .parts + roundOf w p (partOf s) (riding (s .core) m) .parts
+  pub wrote : Wrote ks vs (s .count) ks' vs' (r .count) (roundOf w p (partOf s) (riding (s .core) m) .events)
+  pub energy : r .core .measured .«test_mj» ≤ 65535 * r .core .measured .«test_ms»
+
+-- The ride after the loop.
+pub record Ridden (w : Workout) (p : TrainingProfile) (m m' ks vs ks' vs' : List ℕ) (s r : Ride) : Type 0 where
+  pub riding-is : riding (r .core) m' ≡ ridingOf (rounds w p 97 (s .ms .0) (s .mm .0) (riding (s .core) m))
+  pub parts : r .parts ≡ s .parts + rounds w p 97 (s .ms .0) (s .mm .0) (riding (s .core) m) .parts
+  pub wrote : Wrote ks vs (s .count) ks' vs' (r .count) (rounds w p 97 (s .ms .0) (s .mm .0) (riding (s .core) m) .events)
