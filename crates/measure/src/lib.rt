@@ -99,7 +99,7 @@ fn push_seconds(ring: Ring, count: u64, watts: u16, minute: &mut [u16; 60]) -> R
 }
 
 // The workout's test in a step of `Test` intensity, none elsewhere.
-fn test_in(intensity: Intensity, test: Test) -> Test
+pub fn test_in(intensity: Intensity, test: Test) -> Test
     ensures { λ r. ⌜ r ≡ testIn intensity test ⌝ }
 {
     match intensity {

@@ -213,7 +213,7 @@ fn played_seconds(played: PlayedOption) -> u32
 
 // Planned seconds of the timed steps from `position` on, repeats included.
 pub fn planned_from(workout: Workout, position: usize) -> u32
-    ensures { λ r. ⌜ r ≡ plannedFrom workout position ⌝ }
+    ensures { λ r. ⌜ (r ≡ plannedFrom workout position) × (r ≤ 6291360) ⌝ }
 {
     let mut total = 0;
     let mut at = position;

@@ -6,6 +6,7 @@ use Prim.Native.Nat.{ℕ, _+_, _≤_, _<_}
 use native.Mathlib.Omega.{arith}
 use lib.Dec.{leb}
 use borrow.Author.Tests.{leb-true, le-leb, lt-leb, eq-eqb, ne-eqb}
+use Rattle.validation.proofs.Passes.{passes, ask-left, ask-right}
 use Rattle.common.proofs.Tests.{and-left, and-right}
 use Rattle.refusal.specs.declared.Answer.{Answer}
 use Rattle.refusal.specs.declared.Answer.the-variants.{Accepted, Refused}
@@ -24,7 +25,6 @@ use Rattle.step_end.specs.StepEnd.{Moves, nextOf}
 use Rattle.rounds.specs.declared.Ride.{Ride}
 use Rattle.rounds.specs.Rounds.{riding, rounds}
 use Rattle.rounds.specs.Contracted.{Rides, Ridden}
-use Rattle.rounds.proofs.Keeps.{valid-is, ask-left, ask-right}
 use Rattle.standing.specs.Standing.{standingOf, onPlace}
 use Rattle.standing.specs.Facts.{Within, Stands}
 use Rattle.standing.proofs.Known.{known}
@@ -106,7 +106,7 @@ totalled-stands w c ms mm s a b =
 pub start-rides : (w : Workout) (c : Core) (ms mm k v : ℕ) → Supposes w c ms mm k v
     → Rides w (record { core = totalled ms mm c; ms = record { 0 = ms }; mm = record { 0 = mm }; count = 0; parts = 0 }) k v
 start-rides w c ms mm k v s =
-    let few : playedLen w ≤ 96 = valid-is w (s .stands .within .valid) .few in
+    let few : playedLen w ≤ 96 = passes w (s .stands .within .valid) .most in
     record {
       stands = totalled-stands w c ms mm (s .stands) (s .total-ms) (s .total-mm);
       ms = s .ms-in;

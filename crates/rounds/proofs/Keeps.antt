@@ -1,37 +1,23 @@
 -- A part, and a step's end, keep what is known of a core that stands.
 use mathlib.Core.Path.{_≡_, refl, sym, ap, subst, _∙_}
 use mathlib.Core.Bool.{Bool, true, false, cond, not}
-use mathlib.Core.List.{List}
 use Prim.Native.Nat.{ℕ, zero, suc, _+_, _-_, _*_, _/_, _≤_, _<_, min}
 use native.Mathlib.Omega.{arith}
 use lib.Dec.{ltb, leb, eqb}
-use lib.ListN.{length, getD}
+use lib.ListN.{length}
 use borrow.Author.Tests.{ltb-true, ltb-false, leb-true, leb-false, lt-ltb, le-leb, lt-leb, eq-eqb}
-use Rattle.common.specs.Lists.{all}
-use Rattle.common.proofs.Tests.{cond-by, and-left, and-both}
-use Rattle.common.proofs.Lists.{all-get}
-use Rattle.refusal.specs.declared.Answer.{Answer}
-use Rattle.refusal.specs.declared.Answer.the-variants.{Accepted, Refused}
-use Rattle.refusal.specs.declared.Refusal.{Refusal}
-use Rattle.refusal.specs.declared.Refusal.the-variants as refusals
-use Rattle.refusal.specs.declared.Invalid.the-variants as invalids
-use Rattle.refusal.specs.Number.{ask}
+use Rattle.common.proofs.Tests.{cond-by, and-both}
 use Rattle.zones.specs.declared.TrainingProfile.{TrainingProfile}
-use Rattle.model.specs.declared.Step.{Step}
 use Rattle.model.specs.declared.Length.{Length}
 use Rattle.model.specs.declared.Length.the-variants.{Time, Distance, Open}
 use Rattle.model.specs.declared.Test.{Test}
 use Rattle.model.specs.declared.Test.the-variants as tests
 use Rattle.model.specs.declared.Workout.{Workout}
-use Rattle.model.specs.Workout.{noStep, stepsOf, blocksOf}
-use Rattle.blocks.specs.Blocks.{blocksSound}
-use Rattle.order.specs.declared.PlaceOption.{PlaceOption}
-use Rattle.order.specs.declared.PlaceOption.the-variants as placeOption
 use Rattle.order.specs.declared.PlayedOption.{PlayedOption}
-use Rattle.order.specs.Order.{playedOf, playedLen, playedBy, stepAt, orderOf, nth, nothing}
+use Rattle.order.specs.Order.{playedOf, playedLen}
 use Rattle.order.proofs.Within.{playing-order}
-use Rattle.form.specs.Form.{formOk, isOpen}
-use Rattle.validation.specs.Sound.{workoutAnswer, validAnswer, stepsSound, stepOk, lengthOk, targetOk}
+use Rattle.validation.proofs.Passes.{Passes, passes, played-sound}
+use Rattle.validation.specs.Sound.{lengthOk}
 use Rattle.readings.specs.declared.ReadingOption.{ReadingOption}
 use Rattle.readings.specs.declared.ReadingOption.the-variants.{None, Some}
 use Rattle.readings.specs.declared.Compliance.the-variants.{Under, In, Over}
@@ -48,72 +34,12 @@ use Rattle.model.specs.Target.{rampOption}
 use Rattle.readings.specs.Readings.{orZero, averageOf}
 use Rattle.step_end.specs.StepEnd.{arrived, nextOf, freshLap, stepAfter, isOver}
 use Rattle.steps.specs.Bytes.{intensityKind, lengthKind, lengthValue, targetKind, firstValue, secondValue, thirdValue}
-use Rattle.standing.specs.Standing.{sameStep, sameLength, sameTarget, onPlace, belowEnd, lapOk, fresh}
+use Rattle.standing.specs.Standing.{sameStep, sameLength, sameTarget, onPlace, belowEnd, lapOk}
 use Rattle.standing.specs.Facts.{Within, Stands}
 use Rattle.rounds.specs.Rounds.{Riding, advanced, closed, closedBy, meterAfter, complianceNow}
 use Rattle.rounds.proofs.Parts.{not-over-below}
 
 -- The workout.
-
-pub ask-left : (ok : Bool) (r : Refusal) (rest : Answer) → ask ok r rest ≡ Accepted → ok ≡ true
-ask-left true r rest e = refl
-ask-left false r rest e = absurd (apart e)
-  where
-    apart : Refused r ≡ Accepted → ⊥
-    apart e = let z : _≡_ {A = ℕ} 0 1 = cc in omega arith
-
-pub ask-right : (ok : Bool) (r : Refusal) (rest : Answer) → ask ok r rest ≡ Accepted → rest ≡ Accepted
-ask-right true r rest e = e
-ask-right false r rest e = absurd (apart e)
-  where
-    apart : Refused r ≡ Accepted → ⊥
-    apart e = let z : _≡_ {A = ℕ} 0 1 = cc in omega arith
-
--- what a workout that passes 5 to 9 has
-pub record Valid (w : Workout) : Type 0 where
-  pub blocks : blocksSound (length (stepsOf w)) (blocksOf w) ≡ true
-  pub steps : stepsSound (stepsOf w) ≡ true
-  pub few : playedLen w ≤ 96
-
-pub valid-is : (w : Workout) → workoutAnswer w ≡ Accepted → Valid w
-unfolding workoutAnswer validAnswer
-valid-is w e =
-    let q9 : Answer = ask (leb (playedLen w) 96) (refusals.Invalid invalids.TooLong) Accepted in
-    let q8 : Answer = ask (stepsSound (stepsOf w)) (refusals.Invalid invalids.Step) q9 in
-    let q7 : Answer = ask (blocksSound (length (stepsOf w)) (blocksOf w)) (refusals.Invalid invalids.Block) q8 in
-    let q6 : Answer = ask (ltb 0 (w .«step_count»)) (refusals.Invalid invalids.NoSteps) q7 in
-    let e6 : q6 ≡ Accepted = ask-right (formOk w) refusals.Field q6 e in
-    let e7 : q7 ≡ Accepted = ask-right (ltb 0 (w .«step_count»)) (refusals.Invalid invalids.NoSteps) q7 e6 in
-    let e8 : q8 ≡ Accepted = ask-right (blocksSound (length (stepsOf w)) (blocksOf w)) (refusals.Invalid invalids.Block) q8 e7 in
-    let e9 : q9 ≡ Accepted = ask-right (stepsSound (stepsOf w)) (refusals.Invalid invalids.Step) q9 e8 in
-    record {
-      blocks = ask-left (blocksSound (length (stepsOf w)) (blocksOf w)) (refusals.Invalid invalids.Block) q8 e7;
-      steps = ask-left (stepsSound (stepsOf w)) (refusals.Invalid invalids.Step) q9 e8;
-      few = leb-true (playedLen w) 96 (ask-left (leb (playedLen w) 96) (refusals.Invalid invalids.TooLong) Accepted e9);
-    }
-
--- a played step is one of the workout's
-by-sound : (steps : List Step) (o : PlaceOption) → all stepOk steps ≡ true → playedBy steps o .found ≡ true → stepOk (playedBy steps o .played .step) ≡ true
-unfolding stepAt
-by-sound steps placeOption.None a t = absurd (apart t)
-  where
-    apart : false ≡ true → ⊥
-    apart e = let z : _≡_ {A = ℕ} 0 1 = ap (λ (b : Bool). cond b 1 0) e in omega arith
-by-sound steps (placeOption.Some p) a t =
-    at (ltb (p .index) (length steps)) refl t
-  where
-    made : PlayedOption
-    made = record { found = true; played = record { index = p .index; repetition = p .repetition; of = p .of; step = getD steps (p .index) noStep } }
-
-    at : (b : Bool) → ltb (p .index) (length steps) ≡ b → cond b made nothing .found ≡ true → stepOk (cond b made nothing .played .step) ≡ true
-    at true e t = all-get stepOk steps (p .index) noStep (ltb-true _ _ e) a
-    at false e t = absurd (let z : _≡_ {A = ℕ} 0 1 = ap (λ (b : Bool). cond b 1 0) t in omega arith)
-
-played-sound : (w : Workout) (i : ℕ) → Valid w → playedOf w i .found ≡ true → lengthOk (playedOf w i .played .step .length) ≡ true
-unfolding playedOf stepOk
-played-sound w i v t =
-    let s : Step = playedOf w i .played .step in
-    and-left (lengthOk (s .length)) (targetOk (s .target) (isOpen (s .length))) (by-sound (stepsOf w) (nth (orderOf w) i) (v .steps) t)
 
 -- A step compared with itself.
 
@@ -281,7 +207,7 @@ module _ (x y : ℕ) (w : Workout) (skipped : Bool) (c : Core) (h : Within x y w
   pub next-stands : Stands x y w (nextOf w skipped c .core)
   unfolding nextOf arrived onPlace
   next-stands =
-      let v : Valid w = valid-is w (h .valid) in
+      let v : Passes w = passes w (h .valid) in
       let below : c .position < playedLen w = not-done-below x y w c h d in
       let found : PlayedOption = playedOf w (c .position + 1) in
       let f : found .found ≡ ltb (c .position + 1) (playedLen w) = playing-order .played-below w (v .blocks) (c .position + 1) in

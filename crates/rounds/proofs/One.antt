@@ -7,6 +7,7 @@ use native.Mathlib.Omega.{arith}
 use lib.Dec.{leb, eqb}
 use lib.ListN.{length}
 use borrow.Author.Tests.{eqb-false, ne-eqb}
+use Rattle.validation.proofs.Passes.{Passes, passes}
 use Rattle.common.proofs.Tests.{and-left, and-right}
 use Rattle.zones.specs.declared.TrainingProfile.{TrainingProfile}
 use Rattle.model.specs.declared.Workout.{Workout}
@@ -20,7 +21,7 @@ use Rattle.rounds.specs.declared.Ride.{Ride}
 use Rattle.rounds.specs.Rounds.{Riding, riding, advanced, closed, closedBy, accounted, stays, roundOf, isStopped}
 use Rattle.rounds.specs.Contracted.{AdvanceFits, Rides, partOf}
 use Rattle.rounds.proofs.Parts.{PartIs, part-is}
-use Rattle.rounds.proofs.Keeps.{Valid, valid-is, within-advanced, not-done-below}
+use Rattle.rounds.proofs.Keeps.{within-advanced, not-done-below}
 
 or-false-left : (a b : Bool) → (a || b) ≡ false → a ≡ false
 or-false-left true b e = e
@@ -34,8 +35,8 @@ or-false-right false b e = e
 -- What is known of a core from which a step may end.
 pub next-fits : (x y : ℕ) (w : Workout) (c : Core) → Within x y w c → NextFits c
 next-fits x y w c h =
-    let v : Valid w = valid-is w (h .valid) in
-    let few : playedLen w ≤ 96 = v .few in
+    let v : Passes w = passes w (h .valid) in
+    let few : playedLen w ≤ 96 = v .most in
     record {
       position = omega (arith, h .position);
       done = omega (arith, h .position, h .steps-done);

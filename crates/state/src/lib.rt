@@ -2,7 +2,7 @@
 // The workout and the minute's watts stand apart in `Player`, so that what a round of riding changes is small (`Core`).
 ghost use mathlib.Core.Path.{_≡_};
 ghost use Prim.Native.Nat.{_+_, _-_, _*_, _≤_, min};
-ghost use Rattle.state.specs.State.{inTargetPct, durationMs, distanceMm, timeShare, wayShare, shareOf, untilEnd, tallied, TallyFits, readCore, extendedLap, stepNow};
+ghost use Rattle.state.specs.State.{inTargetPct, durationMs, distanceM, distanceMm, timeShare, wayShare, shareOf, untilEnd, tallied, TallyFits, readCore, extendedLap, stepNow};
 use model::Intensity;
 use model::Length;
 use model::Target;
@@ -164,6 +164,13 @@ pub fn less(a: u64, b: u64) -> u64
     if b < a { a - b } else { 0 }
 }
 
+// The last of `n` places, from 0 on; 0 where there is none.
+pub fn last_of(n: usize) -> usize
+    ensures { λ r. ⌜ r ≡ n - 1 ⌝ }
+{
+    if n == 0 { 0 } else { n - 1 }
+}
+
 fn topped(metres: u64) -> u64
     ensures { λ r. ⌜ r ≡ min metres 4294967295 ⌝ }
 {
@@ -182,11 +189,17 @@ impl Lap {
         ((secs as u64) + (self.extra_s as u64)) * 1000
     }
 
-    // The millimetres of a distance step, with what touches added; its metres top out at 32 bits.
+    // The metres of a distance step, with what touches added; they top out at 32 bits.
+    pub fn distance_m(self, metres: u32) -> u64
+        ensures { λ r. ⌜ (r ≡ distanceM metres self) × (r ≤ 4294967295) ⌝ }
+    {
+        topped((metres as u64) + (self.extra_m as u64))
+    }
+
     pub fn distance_mm(self, metres: u32) -> u64
         ensures { λ r. ⌜ r ≡ distanceMm metres self ⌝ }
     {
-        topped((metres as u64) + (self.extra_m as u64)) * 1000
+        self.distance_m(metres) * 1000
     }
 
     // A touch: 60 s more of a timed step, 500 m more of a distance step.

@@ -9,7 +9,7 @@ use Rattle.order.proofs.planned_from.Statement.{statement}
 use Rattle.order.proofs.planned_from.Tie as tie
 
 abbrev Inv-loop : tie.InvT-loop
-Inv-loop workout position total₀ at₀ total at = (position ≤ at) × (total ≤ 65535 * (at - position)) × (total + plannedFrom workout at ≡ plannedFrom workout position)
+Inv-loop workout position total₀ at₀ total at = (position ≤ at) × (at - position ≤ 96) × (total ≤ 65535 * (at - position)) × (total + plannedFrom workout at ≡ plannedFrom workout position)
 
 abbrev μ-loop : tie.MeasureT-loop
 μ-loop workout position total₀ at₀ total at = 96 - at
@@ -39,7 +39,7 @@ loop-again c = let w = c .before .before .before .before .args .workout in
     omega (arith, planned-step w at (omega arith))
 
 returns : tie.Need-returns Inv-loop μ-loop
-returns c = omega (arith, planned-end (c .before .before .args .workout) (c .before .loop .at) (omega arith))
+returns c = let e = planned-end (c .before .before .args .workout) (c .before .loop .at) (omega arith) in (omega arith, omega arith)
 
 pub planned-from-spec : {M : Type 1} → statement M
 planned-from-spec =

@@ -1,0 +1,78 @@
+-- player.rs, `new`: a fresh player.
+use mathlib.Core.Bool.{false}
+use Prim.Native.Nat.{ℕ}
+use lib.ListN.{replicate}
+use Rattle.refusal.specs.declared.Answer.{Answer}
+use Rattle.refusal.specs.declared.Answer.the-variants.{Accepted, Refused}
+use Rattle.model.specs.declared.Workout.{Workout}
+use Rattle.model.specs.Workout.{emptyWorkout}
+use Rattle.order.specs.declared.Played.{Played}
+use Rattle.order.specs.Order.{playedOf, playedLen}
+use Rattle.validation.specs.Sound.{workoutAnswer}
+use Rattle.readings.specs.declared.ReadingOption.the-variants.{None}
+use Rattle.readings.specs.Readings.{noReadings}
+use Rattle.state.specs.declared.Lap.{Lap}
+use Rattle.state.specs.declared.Measured.{Measured}
+use Rattle.state.specs.declared.Summary.{Summary}
+use Rattle.state.specs.declared.Core.{Core}
+use Rattle.state.specs.declared.Player.{Player}
+use Rattle.state.specs.State.{stepNow}
+use Rattle.start.specs.declared.NewPlayer.{NewPlayer}
+
+-- Nothing ridden, the first step on.
+
+abbrev pub noSummary : ℕ → Summary
+noSummary steps =
+    record {
+      «targeted_ms» = 0;
+      «in_ms» = 0;
+      «under_ms» = 0;
+      «over_ms» = 0;
+      ftp = None;
+      «steps_done» = 0;
+      steps = steps;
+      skipped = 0;
+      finished = false;
+    }
+
+abbrev pub noLap : Lap
+noLap = record { «step_ms» = 0; «step_mm» = 0; «extra_s» = 0; «extra_m» = 0 }
+
+abbrev pub noMeasured : Measured
+noMeasured =
+    record {
+      «test_mj» = 0;
+      «test_ms» = 0;
+      «minute_rest_ms» = 0;
+      «ramp_low_ms» = 0;
+      ring = record { «best_minute» = None; «minute_at» = 0; «minute_len» = 0 };
+    }
+
+abbrev pub freshCore : ℕ → Played → Core
+freshCore steps first =
+    record {
+      position = 0;
+      steps = steps;
+      «total_ms» = record { 0 = 0 };
+      «total_mm» = record { 0 = 0 };
+      lap = noLap;
+      measured = noMeasured;
+      summary = noSummary steps;
+      on = stepNow first;
+      readings = noReadings;
+      done = false;
+    }
+
+abbrev pub freshAt : Workout → Played → Player
+freshAt w first = record { core = freshCore (playedLen w) first; workout = w; note = first .step .note; minute = replicate 60 0 }
+
+unfoldable pub fresh : Workout → Player
+fresh w = freshAt w (playedOf w 0 .played)
+
+-- "`new` asks 5 to 9. A refused reader gives the empty workout .., a refused `new` a player of it, which doesn't stand."
+abbrev pub newBy : Workout → Answer → NewPlayer
+newBy w Accepted = record { answer = Accepted; player = fresh w }
+newBy w (Refused refusal) = record { answer = Refused refusal; player = fresh emptyWorkout }
+
+unfoldable pub newOf : Workout → NewPlayer
+newOf w = newBy w (workoutAnswer w)
