@@ -1,6 +1,6 @@
 -- The calls, outcome by outcome.
 use mathlib.Core.Path.{_≡_, refl, sym, ap, subst, _∙_}
-use mathlib.Core.Bool.{Bool, true, false, cond}
+use mathlib.Core.Bool.{Bool, true, false, cond, _&&_}
 use mathlib.Core.List.{List}
 use Prim.Native.Nat.{ℕ, _+_, _≤_, _<_}
 use native.Mathlib.Omega.{arith}
@@ -25,11 +25,11 @@ use Rattle.step_end.specs.StepEnd.{Moves, nextOf}
 use Rattle.rounds.specs.declared.Ride.{Ride}
 use Rattle.rounds.specs.Rounds.{riding, rounds}
 use Rattle.rounds.specs.Contracted.{Rides, Ridden}
-use Rattle.standing.specs.Standing.{standingOf, onPlace}
+use Rattle.standing.specs.Standing.{standingOf, onPlace, belowEnd, lapOk}
 use Rattle.standing.specs.Facts.{Within, Stands}
 use Rattle.standing.proofs.Known.{known}
 use Rattle.player.specs.declared.Update.{Update}
-use Rattle.player.specs.Calls.{Called, Answers, Supposes, quiet, calm, answered, playerOf, updateOk, totalsWith, placesOk, updateAnswer, totalled, rideBy, rodeTo, rideNow, rideAnswer, rideOf, skipTo, skipNow, skipAnswer, skipOf}
+use Rattle.player.specs.Calls.{Called, Answers, Supposes, ExtraFits, quiet, calm, answered, playerOf, updateOk, totalsWith, placesOk, updateAnswer, totalled, rideBy, rodeTo, rideNow, rideAnswer, rideOf, skipTo, skipNow, skipAnswer, skipOf}
 
 -- a profile that passes its question, and one that does not
 pub sound-yes : (ok : Bool) (r : Refusal) → ask ok r Accepted ≡ Accepted → true ≡ ok
@@ -215,3 +215,18 @@ module _ (c : Core) (k v : ℕ) where
 
   pub enough-places : 193 ≤ k → 193 ≤ v → placesOk c k v ≡ true
   enough-places a b = rw (le-leb 193 k a, le-leb 193 v b)
+
+-- what a touch supposes
+pub extra-fits : (p : Player) → standingOf p ≡ true → p .core .done ≡ false → ExtraFits (p .core) 60 500
+extra-fits p e d =
+    let c : Core = p .core in
+    let below : Bool = belowEnd (c .on .length) (c .lap) in
+    let s : Bool = leb (c .lap .«extra_s») 86400 in
+    let m : Bool = leb (c .lap .«extra_m») 1000000 in
+    let h : (below && s && m) ≡ true = subst (λ (b : Bool). lapOk b (c .on .length) (c .lap) ≡ true) d (known p e .core .lap) in
+    record {
+      extra-s = leb-true (c .lap .«extra_s») 86400 (and-right below s (and-left (below && s) m h));
+      extra-m = leb-true (c .lap .«extra_m») 1000000 (and-right (below && s) m h);
+      secs-in = omega arith;
+      metres-in = omega arith;
+    }

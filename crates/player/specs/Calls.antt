@@ -1,6 +1,6 @@
 -- Document 01's player calls: their questions in order, and what each gives.
 use mathlib.Core.Path.{_≡_}
-use mathlib.Core.Bool.{Bool, true, cond, _&&_}
+use mathlib.Core.Bool.{Bool, true, false, cond, _&&_}
 use mathlib.Core.List.{List, []}
 use Prim.Native.Nat.{ℕ, _+_, _≤_}
 use lib.Dec.{leb, eqb}
@@ -11,13 +11,17 @@ use Rattle.refusal.specs.declared.Refusal.the-variants as refusals
 use Rattle.refusal.specs.Number.{ask}
 use Rattle.zones.specs.declared.TrainingProfile.{TrainingProfile}
 use Rattle.zones.specs.Zones.{profileOk}
+use Rattle.model.specs.declared.Length.{Length}
+use Rattle.model.specs.declared.Length.the-variants.{Time, Distance, Open}
+use Rattle.player.specs.declared.Extended.{Extended}
 use Rattle.model.specs.declared.Workout.{Workout}
 use Rattle.model.specs.Workout.{noStep}
 use Rattle.readings.specs.declared.Sample.{Sample}
 use Rattle.events.specs.Events.{Event, Wrote}
+use Rattle.state.specs.declared.Lap.{Lap}
 use Rattle.state.specs.declared.Core.{Core}
 use Rattle.state.specs.declared.Player.{Player}
-use Rattle.state.specs.State.{readCore}
+use Rattle.state.specs.State.{readCore, extendedLap}
 use Rattle.step_end.specs.StepEnd.{Outcome, nextOf}
 use Rattle.rounds.specs.Rounds.{Riding, riding, Rode, ridingOf, rounds}
 use Rattle.standing.specs.Standing.{standingOf, cadenceIn}
@@ -140,6 +144,53 @@ skipAnswer p kinds values = ask (standingOf p) refusals.Standing (ask (placesOk 
 
 unfoldable pub skipOf : Player → ℕ → ℕ → Called
 skipOf p kinds values = answered (skipAnswer p kinds values) p (skipNow p)
+
+-- Extend.
+
+abbrev pub notExtended : Answer → Player → Extended
+notExtended answer p = record { answer = answer; player = p; extended = false }
+
+abbrev pub withLap : Lap → Core → Core
+withLap lap c =
+    record {
+      position = c .position;
+      steps = c .steps;
+      «total_ms» = c .«total_ms»;
+      «total_mm» = c .«total_mm»;
+      lap = lap;
+      measured = c .measured;
+      summary = c .summary;
+      on = c .on;
+      readings = c .readings;
+      done = c .done;
+    }
+
+abbrev pub longerBy : ℕ → ℕ → Player → Extended
+longerBy secs metres p =
+    record { answer = Accepted; player = withCore (withLap (extendedLap secs metres (p .core .lap)) (p .core)) p; extended = true }
+
+-- "Extend of an unfinished timed or distance step: its extra at most 86,400 s or 1,000,000 m after it? 15. Open .. gives `false`, no
+-- refusal."
+unfoldable pub extendBy : ℕ → ℕ → Length → Player → Extended
+extendBy secs metres (Time time) p =
+    cond (leb (p .core .lap .«extra_s» + secs) 86400) (longerBy secs 0 p) (notExtended (Refused refusals.Extra) p)
+extendBy secs metres (Distance way) p =
+    cond (leb (p .core .lap .«extra_m» + metres) 1000000) (longerBy 0 metres p) (notExtended (Refused refusals.Extra) p)
+extendBy secs metres Open p = notExtended Accepted p
+
+-- "Open or finished gives `false`"; player.rs: a touch adds 60 s or 500 m.
+abbrev pub extendNow : Bool → Player → Extended
+extendNow done p = cond done (notExtended Accepted p) (extendBy 60 500 (p .core .on .length) p)
+
+unfoldable pub extendOf : Player → Extended
+extendOf p = cond (standingOf p) (extendNow (p .core .done) p) (notExtended (Refused refusals.Standing) p)
+
+-- What `extend_by` supposes: extras within their limits.
+pub record ExtraFits (c : Core) (secs metres : ℕ) : Type 0 where
+  pub extra-s : c .lap .«extra_s» ≤ 86400
+  pub extra-m : c .lap .«extra_m» ≤ 1000000
+  pub secs-in : secs ≤ 86400
+  pub metres-in : metres ≤ 1000000
 
 -- What the functions below the calls suppose: a core that stands, and what the questions passed.
 pub record Supposes (w : Workout) (c : Core) (ms mm kinds values : ℕ) : Type 0 where

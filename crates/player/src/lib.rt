@@ -1,4 +1,4 @@
-// player.rs's calls that change the player: `read`, ride (the loop of `add` without its `read`), `add`, `skip` and `extend`, with
+// player.rs's calls that change the player: `read`, ride (the loop of `add` without its `read`), `skip` and `extend`, with
 // document 01's questions in their order. Each takes the player and gives it back.
 ghost use mathlib.Core.Path.{_≡_};
 ghost use Prim.Native.Nat.{_+_, _≤_};
@@ -6,7 +6,8 @@ ghost use lib.ListN.{length, getD};
 ghost use Rattle.model.specs.Workout.{noStep};
 ghost use Rattle.zones.specs.Zones.{profileOk};
 ghost use Rattle.rounds.specs.Rounds.{riding};
-ghost use Rattle.player.specs.Calls.{quiet, playerOf, updateAnswer, totalled, withCore, rideNow, rideOf, readOf, skipNow, skipOf, Answers, Supposes};
+ghost use Rattle.player.specs.Calls.{quiet, playerOf, updateAnswer, totalled, withCore, rideNow, rideOf, readOf, skipNow, skipOf, notExtended, longerBy, extendBy, extendOf, ExtraFits, Answers, Supposes};
+use model::Length;
 use model::Step;
 use model::Workout;
 use names::Name;
@@ -23,6 +24,11 @@ use state::Ms;
 use state::Player;
 use step_end::next;
 use zones::TrainingProfile;
+
+// What a touch adds to the step on screen.
+pub const EXTEND_S: u32 = 60;
+
+pub const EXTEND_M: u32 = 500;
 
 // What a call gives: its answer, the player after it, the number of its events in the lent arrays, and the rounds that rode.
 pub struct Update {
@@ -245,4 +251,71 @@ pub fn skip(player: Player, kinds: &mut [u8], values: &mut [u16]) -> Update
         return plain(player, Answer::Refused(Refusal::EventPlaces));
     }
     skip_now(player, kinds, values)
+}
+
+fn not_extended(player: Player, answer: Answer) -> Extended
+    ensures { λ r. ⌜ r ≡ notExtended answer player ⌝ }
+{
+    Extended {
+        answer,
+        player,
+        extended: false,
+    }
+}
+
+// The player with `secs` and `metres` more in the step on now.
+fn longer(player: Player, secs: u32, metres: u32) -> Extended
+    requires { ⌜ (player .core .lap .«extra_s» + secs ≤ 86400) × (player .core .lap .«extra_m» + metres ≤ 1000000) ⌝ }
+    ensures { λ r. ⌜ r ≡ longerBy secs metres player ⌝ }
+{
+    let core = player.core;
+    let lap = core.lap;
+    let more = lap.extended(secs, metres);
+    let mut c = core;
+    c.lap = more;
+    Extended {
+        answer: Answer::Accepted,
+        player: with_core(player, c),
+        extended: true,
+    }
+}
+
+// A touch of which only question 15 is to be asked: `secs` more of a timed step, `metres` more of a distance step.
+fn extend_by(player: Player, secs: u32, metres: u32) -> Extended
+    requires { ⌜ ExtraFits (player .core) secs metres ⌝ }
+    ensures { λ r. ⌜ r ≡ extendBy secs metres (player .core .on .length) player ⌝ }
+{
+    let core = player.core;
+    let lap = core.lap;
+    let on = core.on;
+    let length = on.length;
+    match length {
+        Length::Time(_) => {
+            if lap.extra_s + secs <= 86400 {
+                return longer(player, secs, 0);
+            }
+            not_extended(player, Answer::Refused(Refusal::Extra))
+        }
+        Length::Distance(_) => {
+            if lap.extra_m + metres <= 1000000 {
+                return longer(player, 0, metres);
+            }
+            not_extended(player, Answer::Refused(Refusal::Extra))
+        }
+        Length::Open => not_extended(player, Answer::Accepted),
+    }
+}
+
+// Add time (or distance) to the step on now; open steps need none.
+pub fn extend(player: Player) -> Extended
+    ensures { λ r. ⌜ r ≡ extendOf player ⌝ }
+{
+    let core = player.core;
+    if !is_standing(player) {
+        return not_extended(player, Answer::Refused(Refusal::Standing));
+    }
+    if core.done {
+        return not_extended(player, Answer::Accepted);
+    }
+    extend_by(player, EXTEND_S, EXTEND_M)
 }
