@@ -18,18 +18,21 @@ use Rattle.zones.specs.Zones.{profileOk}
 use Rattle.model.specs.declared.Workout.{Workout}
 use Rattle.order.specs.Order.{playedLen}
 use Rattle.events.proofs.Laws.{wrote-none}
+use Rattle.readings.specs.declared.Sample.{Sample}
+use Rattle.readings.specs.Readings.{taken, added}
 use Rattle.state.specs.declared.Core.{Core}
+use Rattle.state.specs.State.{readCore}
 use Rattle.state.specs.declared.Player.{Player}
 use Rattle.step_end.specs.declared.Moved.{Moved}
 use Rattle.step_end.specs.StepEnd.{Moves, nextOf}
 use Rattle.rounds.specs.declared.Ride.{Ride}
 use Rattle.rounds.specs.Rounds.{riding, rounds}
 use Rattle.rounds.specs.Contracted.{Rides, Ridden}
-use Rattle.standing.specs.Standing.{standingOf, onPlace, belowEnd, lapOk}
+use Rattle.standing.specs.Standing.{standingOf, onPlace, belowEnd, lapOk, cadenceIn}
 use Rattle.standing.specs.Facts.{Within, Stands}
 use Rattle.standing.proofs.Known.{known}
 use Rattle.player.specs.declared.Update.{Update}
-use Rattle.player.specs.Calls.{Called, Answers, Supposes, ExtraFits, quiet, calm, answered, playerOf, updateOk, totalsWith, placesOk, updateAnswer, totalled, rideBy, rodeTo, rideNow, rideAnswer, rideOf, skipTo, skipNow, skipAnswer, skipOf}
+use Rattle.player.specs.Calls.{Called, Answers, Supposes, ExtraFits, withCore, addNow, addAnswer, addOf, eventlessUpdate, eventless, answered, playerOf, updateOk, totalsWith, placesOk, updateAnswer, totalled, rideBy, rodeTo, rideNow, rideAnswer, rideOf, skipTo, skipNow, skipAnswer, skipOf}
 
 -- a profile that passes its question, and one that does not
 pub sound-yes : (ok : Bool) (r : Refusal) → ask ok r Accepted ≡ Accepted → true ≡ ok
@@ -40,10 +43,10 @@ sound-no false r s e = refl
 sound-no true r s e = absurd (let z : _≡_ {A = ℕ} 0 1 = cc in omega arith)
 
 -- a call without events
-pub calm-answers : (ks vs : List ℕ) (p : Player) (u : Update) (o : Called) (a : Answer) → u ≡ quiet a p → calm a p ≡ o → Answers ks vs ks vs u o
-calm-answers ks vs p u o a e f =
+pub eventless-answers : (ks vs : List ℕ) (p : Player) (u : Update) (o : Called) (a : Answer) → u ≡ eventlessUpdate a p → eventless a p ≡ o → Answers ks vs ks vs u o
+eventless-answers ks vs p u o a e f =
     subst (λ (o : Called). Answers ks vs ks vs u o) f
-    (subst (λ (u : Update). Answers ks vs ks vs u (calm a p)) (sym e) (record { answer = refl; player = refl; parts = refl; wrote = wrote-none ks vs 0 }))
+    (subst (λ (u : Update). Answers ks vs ks vs u (eventless a p)) (sym e) (record { answer = refl; player = refl; parts = refl; wrote = wrote-none ks vs 0 }))
 
 -- what passing questions 12 to 14 says
 pub update-passed : (w : Workout) (c : Core) (ms mm k v : ℕ) → Stands 0 0 w c → updateAnswer c ms mm k v ≡ Accepted → Supposes w c ms mm k v
@@ -117,7 +120,7 @@ start-rides w c ms mm k v s =
     }
 
 module _ (p : Player) (ms mm : ℕ) (f : TrainingProfile) where
-  pub ride-idle : ms ≡ 0 → calm Accepted p ≡ rideNow p ms mm f
+  pub ride-idle : ms ≡ 0 → eventless Accepted p ≡ rideNow p ms mm f
   unfolding rideNow
   ride-idle e =
       sym (ap (λ (b : Bool). rideBy b p (rounds (p .workout) f 97 ms mm (riding (totalled ms mm (p .core)) (p .minute)))) (eq-eqb ms 0 e))
@@ -136,7 +139,7 @@ module _ (p : Player) (ms mm : ℕ) (f : TrainingProfile) where
       (record { answer = refl; player = eq ∙ ap (playerOf (p .workout)) (o .riding-is); parts = omega (arith, o .parts); wrote = o .wrote })
 
   module _ (k v : ℕ) where
-    pub ride-20 : standingOf p ≡ false → calm (Refused refusals.Standing) p ≡ rideOf p ms mm f k v
+    pub ride-20 : standingOf p ≡ false → eventless (Refused refusals.Standing) p ≡ rideOf p ms mm f k v
     unfolding rideOf rideAnswer
     ride-20 e = sym (ap (λ (b : Bool). answered (ask b refusals.Standing (ask (profileOk f) refusals.Profile (updateAnswer (p .core) ms mm k v))) p (rideNow p ms mm f)) e)
 
@@ -144,13 +147,13 @@ module _ (p : Player) (ms mm : ℕ) (f : TrainingProfile) where
     unfolding rideOf rideAnswer
     past-20 e = ap (λ (b : Bool). answered (ask b refusals.Standing (ask (profileOk f) refusals.Profile (updateAnswer (p .core) ms mm k v))) p (rideNow p ms mm f)) e
 
-    pub ride-10 : standingOf p ≡ true → profileOk f ≡ false → calm (Refused refusals.Profile) p ≡ rideOf p ms mm f k v
+    pub ride-10 : standingOf p ≡ true → profileOk f ≡ false → eventless (Refused refusals.Profile) p ≡ rideOf p ms mm f k v
     ride-10 e g = sym (past-20 e ∙ ap (λ (b : Bool). answered (ask b refusals.Profile (updateAnswer (p .core) ms mm k v)) p (rideNow p ms mm f)) g)
 
     past-10 : standingOf p ≡ true → profileOk f ≡ true → rideOf p ms mm f k v ≡ answered (updateAnswer (p .core) ms mm k v) p (rideNow p ms mm f)
     past-10 e g = past-20 e ∙ ap (λ (b : Bool). answered (ask b refusals.Profile (updateAnswer (p .core) ms mm k v)) p (rideNow p ms mm f)) g
 
-    pub ride-refused : (r : Refusal) → standingOf p ≡ true → profileOk f ≡ true → updateAnswer (p .core) ms mm k v ≡ Refused r → calm (Refused r) p ≡ rideOf p ms mm f k v
+    pub ride-refused : (r : Refusal) → standingOf p ≡ true → profileOk f ≡ true → updateAnswer (p .core) ms mm k v ≡ Refused r → eventless (Refused r) p ≡ rideOf p ms mm f k v
     ride-refused r e g u = sym (past-10 e g ∙ ap (λ (a : Answer). answered a p (rideNow p ms mm f)) u)
 
     pub ride-taken : standingOf p ≡ true → profileOk f ≡ true → updateAnswer (p .core) ms mm k v ≡ Accepted → rideNow p ms mm f ≡ rideOf p ms mm f k v
@@ -158,13 +161,13 @@ module _ (p : Player) (ms mm : ℕ) (f : TrainingProfile) where
 
 -- A skip.
 
-pub skip-idle : (p : Player) → p .core .done ≡ true → calm Accepted p ≡ skipNow p
+pub skip-idle : (p : Player) → p .core .done ≡ true → eventless Accepted p ≡ skipNow p
 unfolding skipNow
-skip-idle p e = sym (ap (λ (b : Bool). cond b (calm Accepted p) (skipTo p (nextOf (p .workout) true (p .core)))) e)
+skip-idle p e = sym (ap (λ (b : Bool). cond b (eventless Accepted p) (skipTo p (nextOf (p .workout) true (p .core)))) e)
 
 skip-moved : (p : Player) → p .core .done ≡ false → skipTo p (nextOf (p .workout) true (p .core)) ≡ skipNow p
 unfolding skipNow
-skip-moved p e = sym (ap (λ (b : Bool). cond b (calm Accepted p) (skipTo p (nextOf (p .workout) true (p .core)))) e)
+skip-moved p e = sym (ap (λ (b : Bool). cond b (eventless Accepted p) (skipTo p (nextOf (p .workout) true (p .core)))) e)
 
 pub skip-made : {ks vs ks' vs' : List ℕ} (p : Player) (r : Moved) (q : Player) → p .core .done ≡ false
     → Moves ks vs 0 ks' vs' r (nextOf (p .workout) true (p .core)) → q ≡ playerOf (p .workout) (riding (r .core) (p .minute))
@@ -174,7 +177,7 @@ skip-made {ks} {vs} {ks'} {vs'} p r q d o eq =
     (record { answer = refl; player = eq ∙ ap (λ (c : Core). playerOf (p .workout) (riding c (p .minute))) (o .core); parts = refl; wrote = o .wrote })
 
 module _ (p : Player) (k v : ℕ) where
-  pub skip-20 : standingOf p ≡ false → calm (Refused refusals.Standing) p ≡ skipOf p k v
+  pub skip-20 : standingOf p ≡ false → eventless (Refused refusals.Standing) p ≡ skipOf p k v
   unfolding skipOf skipAnswer
   skip-20 e = sym (ap (λ (b : Bool). answered (ask b refusals.Standing (ask (placesOk (p .core) k v) refusals.EventPlaces Accepted)) p (skipNow p)) e)
 
@@ -182,7 +185,7 @@ module _ (p : Player) (k v : ℕ) where
   unfolding skipOf skipAnswer
   skip-past e = ap (λ (b : Bool). answered (ask b refusals.Standing (ask (placesOk (p .core) k v) refusals.EventPlaces Accepted)) p (skipNow p)) e
 
-  pub skip-14 : standingOf p ≡ true → placesOk (p .core) k v ≡ false → calm (Refused refusals.EventPlaces) p ≡ skipOf p k v
+  pub skip-14 : standingOf p ≡ true → placesOk (p .core) k v ≡ false → eventless (Refused refusals.EventPlaces) p ≡ skipOf p k v
   skip-14 e g = sym (skip-past e ∙ ap (λ (b : Bool). answered (ask b refusals.EventPlaces Accepted) p (skipNow p)) g)
 
   pub skip-taken : standingOf p ≡ true → placesOk (p .core) k v ≡ true → skipNow p ≡ skipOf p k v
@@ -230,3 +233,93 @@ extra-fits p e d =
       secs-in = omega arith;
       metres-in = omega arith;
     }
+
+-- Add.
+
+-- a reading keeps standing
+pub read-stands : (w : Workout) (c : Core) (sample : Sample) → Stands 0 0 w c → cadenceIn (sample .«cadence_tenths») ≡ true → Stands 0 0 w (readCore sample c)
+unfolding onPlace readCore taken added
+read-stands w c sample s e =
+    let h : Within 0 0 w c = s .within in
+    record {
+      within =
+          record {
+            valid = h .valid;
+            steps = h .steps;
+            summary-steps = h .summary-steps;
+            steps-done = h .steps-done;
+            skipped = h .skipped;
+            position = h .position;
+            done = h .done;
+            finished = h .finished;
+            step = h .step;
+            tallies = h .tallies;
+            targeted = h .targeted;
+            step-ms = h .step-ms;
+            step-mm = h .step-mm;
+            energy = h .energy;
+            test-ms = h .test-ms;
+            low = h .low;
+            rest = h .rest;
+            place = h .place;
+            long = h .long;
+            next = omega arith;
+            cadence = e;
+            total-ms = h .total-ms;
+            total-mm = h .total-mm;
+          };
+      lap = s .lap;
+    }
+
+pub read-supposes : (w : Workout) (c : Core) (sample : Sample) (ms mm k v : ℕ) → Supposes w c ms mm k v → cadenceIn (sample .«cadence_tenths») ≡ true
+    → Supposes w (readCore sample c) ms mm k v
+unfolding readCore
+read-supposes w c sample ms mm k v s e =
+    record {
+      stands = read-stands w c sample (s .stands) e;
+      ms-in = s .ms-in;
+      mm-in = s .mm-in;
+      total-ms = s .total-ms;
+      total-mm = s .total-mm;
+      kinds-in = s .kinds-in;
+      values-in = s .values-in;
+    }
+
+module _ (p : Player) (ms mm : ℕ) (sample : Sample) (f : TrainingProfile) where
+  pub add-idle : ms ≡ 0 → eventless Accepted p ≡ addNow p ms mm sample f
+  unfolding addNow
+  add-idle e = sym (ap (λ (b : Bool). cond b (eventless Accepted p) (rideNow (withCore (readCore sample (p .core)) p) ms mm f)) (eq-eqb ms 0 e))
+
+  pub add-rode : (ms ≡ 0 → ⊥) → rideNow (withCore (readCore sample (p .core)) p) ms mm f ≡ addNow p ms mm sample f
+  unfolding addNow
+  add-rode e = sym (ap (λ (b : Bool). cond b (eventless Accepted p) (rideNow (withCore (readCore sample (p .core)) p) ms mm f)) (ne-eqb ms 0 e))
+
+  module _ (k v : ℕ) where
+    -- the answer after each question
+    abbrev after : Bool → Bool → Bool → Answer
+    after a b c = ask a refusals.Standing (ask b refusals.Profile (ask c refusals.Cadence (updateAnswer (p .core) ms mm k v)))
+
+    add-is : (a b c : Bool) → standingOf p ≡ a → profileOk f ≡ b → cadenceIn (sample .«cadence_tenths») ≡ c
+        → answered (after a b c) p (addNow p ms mm sample f) ≡ addOf p ms mm sample f k v
+    unfolding addOf addAnswer
+    add-is a b c e g h =
+        sym (ap (λ (x : Bool). answered (after x (profileOk f) (cadenceIn (sample .«cadence_tenths»))) p (addNow p ms mm sample f)) e
+        ∙ ap (λ (x : Bool). answered (after a x (cadenceIn (sample .«cadence_tenths»))) p (addNow p ms mm sample f)) g
+        ∙ ap (λ (x : Bool). answered (after a b x) p (addNow p ms mm sample f)) h)
+
+    pub add-20 : standingOf p ≡ false → eventless (Refused refusals.Standing) p ≡ addOf p ms mm sample f k v
+    add-20 e = add-is false (profileOk f) (cadenceIn (sample .«cadence_tenths»)) e refl refl
+
+    pub add-10 : standingOf p ≡ true → profileOk f ≡ false → eventless (Refused refusals.Profile) p ≡ addOf p ms mm sample f k v
+    add-10 e g = add-is true false (cadenceIn (sample .«cadence_tenths»)) e g refl
+
+    pub add-11 : standingOf p ≡ true → profileOk f ≡ true → cadenceIn (sample .«cadence_tenths») ≡ false → eventless (Refused refusals.Cadence) p ≡ addOf p ms mm sample f k v
+    add-11 e g h = add-is true true false e g h
+
+    pub add-refused : (r : Refusal) → standingOf p ≡ true → profileOk f ≡ true → cadenceIn (sample .«cadence_tenths») ≡ true
+        → updateAnswer (p .core) ms mm k v ≡ Refused r → eventless (Refused r) p ≡ addOf p ms mm sample f k v
+    add-refused r e g h u = sym (ap (λ (a : Answer). answered a p (addNow p ms mm sample f)) u) ∙ add-is true true true e g h
+
+    pub add-taken : standingOf p ≡ true → profileOk f ≡ true → cadenceIn (sample .«cadence_tenths») ≡ true → updateAnswer (p .core) ms mm k v ≡ Accepted
+        → addNow p ms mm sample f ≡ addOf p ms mm sample f k v
+    add-taken e g h u = sym (ap (λ (a : Answer). answered a p (addNow p ms mm sample f)) u) ∙ add-is true true true e g h

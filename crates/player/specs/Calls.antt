@@ -43,16 +43,16 @@ pub record Answers (ks vs ks' vs' : List ℕ) (r : Update) (o : Called) : Type 0
   pub wrote : Wrote ks vs 0 ks' vs' (r .events) (o .events)
 
 -- Without events or parts.
-abbrev pub quiet : Answer → Player → Update
-quiet answer p = record { answer = answer; player = p; events = 0; parts = 0 }
+abbrev pub eventlessUpdate : Answer → Player → Update
+eventlessUpdate answer p = record { answer = answer; player = p; events = 0; parts = 0 }
 
-abbrev pub calm : Answer → Player → Called
-calm answer p = record { answer = answer; player = p; events = []; parts = 0 }
+abbrev pub eventless : Answer → Player → Called
+eventless answer p = record { answer = answer; player = p; events = []; parts = 0 }
 
 -- Refused, a call leaves the player, with 0 events and 0 parts.
 abbrev pub answered : Answer → Player → Called → Called
 answered Accepted p o = o
-answered (Refused refusal) p o = calm (Refused refusal) p
+answered (Refused refusal) p o = eventless (Refused refusal) p
 
 -- The player of a core and its minute. The note is that of the step on now.
 abbrev pub playerOf : Workout → Riding → Player
@@ -106,7 +106,7 @@ rodeTo w r = record { answer = Accepted; player = playerOf w (ridingOf r); event
 
 -- "Then 0 ms does nothing at all"
 abbrev pub rideBy : Bool → Player → Rode → Called
-rideBy idle p r = cond idle (calm Accepted p) (rodeTo (p .workout) r)
+rideBy idle p r = cond idle (eventless Accepted p) (rodeTo (p .workout) r)
 
 unfoldable pub rideNow : Player → ℕ → ℕ → TrainingProfile → Called
 rideNow p ms mm f = rideBy (eqb ms 0) p (rounds (p .workout) f 97 ms mm (riding (totalled ms mm (p .core)) (p .minute)))
@@ -125,11 +125,23 @@ unfoldable pub readAnswer : Player → Sample → Answer
 readAnswer p sample = ask (standingOf p) refusals.Standing (ask (cadenceIn (sample .«cadence_tenths»)) refusals.Cadence Accepted)
 
 abbrev pub readBy : Answer → Player → Sample → Update
-readBy Accepted p sample = quiet Accepted (withCore (readCore sample (p .core)) p)
-readBy (Refused refusal) p sample = quiet (Refused refusal) p
+readBy Accepted p sample = eventlessUpdate Accepted (withCore (readCore sample (p .core)) p)
+readBy (Refused refusal) p sample = eventlessUpdate (Refused refusal) p
 
 unfoldable pub readOf : Player → Sample → Update
 readOf p sample = readBy (readAnswer p sample) p sample
+
+-- Add: read, then ride, with the questions of both first.
+
+unfoldable pub addNow : Player → ℕ → ℕ → Sample → TrainingProfile → Called
+addNow p ms mm sample f = cond (eqb ms 0) (eventless Accepted p) (rideNow (withCore (readCore sample (p .core)) p) ms mm f)
+
+unfoldable pub addAnswer : Player → ℕ → ℕ → Sample → TrainingProfile → ℕ → ℕ → Answer
+addAnswer p ms mm sample f kinds values =
+    ask (standingOf p) refusals.Standing (ask (profileOk f) refusals.Profile (ask (cadenceIn (sample .«cadence_tenths»)) refusals.Cadence (updateAnswer (p .core) ms mm kinds values)))
+
+unfoldable pub addOf : Player → ℕ → ℕ → Sample → TrainingProfile → ℕ → ℕ → Called
+addOf p ms mm sample f kinds values = answered (addAnswer p ms mm sample f kinds values) p (addNow p ms mm sample f)
 
 -- Skip.
 
@@ -137,7 +149,7 @@ abbrev pub skipTo : Player → Outcome → Called
 skipTo p o = record { answer = Accepted; player = playerOf (p .workout) (riding (o .core) (p .minute)); events = o .events; parts = 0 }
 
 unfoldable pub skipNow : Player → Called
-skipNow p = cond (p .core .done) (calm Accepted p) (skipTo p (nextOf (p .workout) true (p .core)))
+skipNow p = cond (p .core .done) (eventless Accepted p) (skipTo p (nextOf (p .workout) true (p .core)))
 
 unfoldable pub skipAnswer : Player → ℕ → ℕ → Answer
 skipAnswer p kinds values = ask (standingOf p) refusals.Standing (ask (placesOk (p .core) kinds values) refusals.EventPlaces Accepted)

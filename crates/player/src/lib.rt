@@ -1,12 +1,14 @@
-// player.rs's calls that change the player: `read`, ride (the loop of `add` without its `read`), `skip` and `extend`, with
+// player.rs's calls that change the player: `read`, ride (the loop of `add` without its `read`), `add`, `skip` and `extend`, with
 // document 01's questions in their order. Each takes the player and gives it back.
 ghost use mathlib.Core.Path.{_≡_};
+ghost use mathlib.Core.Bool.{true};
 ghost use Prim.Native.Nat.{_+_, _≤_};
 ghost use lib.ListN.{length, getD};
 ghost use Rattle.model.specs.Workout.{noStep};
 ghost use Rattle.zones.specs.Zones.{profileOk};
 ghost use Rattle.rounds.specs.Rounds.{riding};
-ghost use Rattle.player.specs.Calls.{quiet, playerOf, updateAnswer, totalled, withCore, rideNow, rideOf, readOf, skipNow, skipOf, notExtended, longerBy, extendBy, extendOf, ExtraFits, Answers, Supposes};
+ghost use Rattle.standing.specs.Standing.{cadenceIn};
+ghost use Rattle.player.specs.Calls.{eventlessUpdate, playerOf, updateAnswer, totalled, withCore, rideNow, rideOf, readOf, skipNow, skipOf, notExtended, longerBy, extendBy, extendOf, ExtraFits, addNow, addOf, Answers, Supposes};
 use model::Length;
 use model::Step;
 use model::Workout;
@@ -47,7 +49,7 @@ pub struct Extended {
 
 // A call without events or parts.
 fn plain(player: Player, answer: Answer) -> Update
-    ensures { λ r. ⌜ r ≡ quiet answer player ⌝ }
+    ensures { λ r. ⌜ r ≡ eventlessUpdate answer player ⌝ }
 {
     Update {
         answer,
@@ -318,4 +320,54 @@ pub fn extend(player: Player) -> Extended
         return not_extended(player, Answer::Accepted);
     }
     extend_by(player, EXTEND_S, EXTEND_M)
+}
+
+// An `add` of which nothing is to be asked any more.
+fn add_now(
+    player: Player,
+    ms: Ms,
+    mm: Mm,
+    sample: Sample,
+    profile: TrainingProfile,
+    kinds: &mut [u8],
+    values: &mut [u16],
+) -> Update
+    requires { ⌜ Supposes (player .workout) (player .core) (ms .0) (mm .0) (length (now kinds)) (length (now values)) × (cadenceIn (sample .«cadence_tenths») ≡ true) ⌝ }
+    ensures { λ r. ⌜ Answers (now (kinds .entry)) (now (values .entry)) (now (kinds .exit)) (now (values .exit)) r (addNow player (ms .0) (mm .0) sample profile) ⌝ }
+{
+    if ms.0 == 0 {
+        return plain(player, Answer::Accepted);
+    }
+    let core = player.core;
+    let taken = with_core(player, core.read(sample));
+    ride_now(taken, ms, mm, profile, kinds, values)
+}
+
+// Account `ms` of recorded riding over `mm` with `sample`'s readings.
+pub fn add(
+    player: Player,
+    ms: Ms,
+    mm: Mm,
+    sample: Sample,
+    profile: TrainingProfile,
+    kinds: &mut [u8],
+    values: &mut [u16],
+) -> Update
+    ensures { λ r. ⌜ Answers (now (kinds .entry)) (now (values .entry)) (now (kinds .exit)) (now (values .exit)) r (addOf player (ms .0) (mm .0) sample profile (length (now (kinds .entry))) (length (now (values .entry)))) ⌝ }
+{
+    let core = player.core;
+    let cadence = sample.cadence_tenths;
+    if !is_standing(player) {
+        return plain(player, Answer::Refused(Refusal::Standing));
+    }
+    if !is_sound(profile) {
+        return plain(player, Answer::Refused(Refusal::Profile));
+    }
+    if !cadence_in(cadence) {
+        return plain(player, Answer::Refused(Refusal::Cadence));
+    }
+    match update_answer(core, ms, mm, kinds.len(), values.len()) {
+        Answer::Accepted => add_now(player, ms, mm, sample, profile, kinds, values),
+        Answer::Refused(refusal) => plain(player, Answer::Refused(refusal)),
+    }
 }

@@ -1,5 +1,5 @@
 -- `ride`: one case for each question that fails, and one where none does.
-use Rattle.player.proofs.Laws.{answers-is, calm-answers, update-passed, ride-20, ride-10, ride-refused, ride-taken}
+use Rattle.player.proofs.Laws.{answers-is, eventless-answers, update-passed, ride-20, ride-10, ride-refused, ride-taken}
 use Rattle.standing.proofs.Known.{known}
 use Rattle.refusal.specs.declared.Refusal.the-variants as refusals
 use Rattle.refusal.specs.declared.Answer.the-variants.{Refused}
@@ -17,7 +17,7 @@ plain-requires c κs = search needs
 
 returns : tie.Need-returns
 returns c = let a = c .before .before .before .before .before .before .args in
-    calm-answers _ _ (a .player) _ _ (Refused refusals.Standing) (c .plain .ensures) (ride-20 (a .player) (a .ms .0) (a .mm .0) (a .profile) _ _ (sym (c .before .before .is-standing .ensures) ∙ not-true _ (c .before .if1 .taken)))
+    eventless-answers _ _ (a .player) _ _ (Refused refusals.Standing) (c .plain .ensures) (ride-20 (a .player) (a .ms .0) (a .mm .0) (a .profile) _ _ (sym (c .before .before .is-standing .ensures) ∙ not-true _ (c .before .if1 .taken)))
 
 is-sound-requires : tie.Need-is-sound-requires
 is-sound-requires c κs = search needs
@@ -27,7 +27,7 @@ plain-requires-2 c κs = search needs
 
 returns-2 : tie.Need-returns-2
 returns-2 c = let a = c .before .before .before .before .before .before .before .before .args in
-    calm-answers _ _ (a .player) _ _ (Refused refusals.Profile) (c .plain2 .ensures) (ride-10 (a .player) (a .ms .0) (a .mm .0) (a .profile) _ _ (sym (c .before .before .before .before .is-standing .ensures) ∙ not-false _ (c .before .before .before .if1 .left)) (sym (c .before .before .is-sound .ensures) ∙ not-true _ (c .before .if2 .taken)))
+    eventless-answers _ _ (a .player) _ _ (Refused refusals.Profile) (c .plain2 .ensures) (ride-10 (a .player) (a .ms .0) (a .mm .0) (a .profile) _ _ (sym (c .before .before .before .before .is-standing .ensures) ∙ not-false _ (c .before .before .before .if1 .left)) (sym (c .before .before .is-sound .ensures) ∙ not-true _ (c .before .if2 .taken)))
 
 update-answer-requires : tie.Need-update-answer-requires
 update-answer-requires c κs = let k = known (c .before .before .before .before .before .before .before .args .player) (sym (c .before .before .before .is-standing .ensures) ∙ not-false _ (c .before .before .if1 .left)) .core .within in (k .total-ms, k .total-mm)
@@ -57,7 +57,7 @@ returns-3 c = let a = c .before .before .before .before .before .before .before 
 
 returns-4 : tie.Need-returns-4
 returns-4 c = let a = c .before .before .before .before .before .before .before .before .before .before .before .before .args in
-    calm-answers _ _ (a .player) _ _ _ (c .plain3 .ensures) (ride-refused (a .player) (a .ms .0) (a .mm .0) (a .profile) _ _ _ (sym (c .before .before .before .before .before .before .before .before .is-standing .ensures) ∙ not-false _ (c .before .before .before .before .before .before .before .if1 .left)) (sym (c .before .before .before .before .before .before .is-sound .ensures) ∙ not-false _ (c .before .before .before .before .before .if2 .left)) (sym (c .before .before .before .before .update-answer .ensures) ∙ c .before .before .refusal .given .1))
+    eventless-answers _ _ (a .player) _ _ _ (c .plain3 .ensures) (ride-refused (a .player) (a .ms .0) (a .mm .0) (a .profile) _ _ _ (sym (c .before .before .before .before .before .before .before .before .is-standing .ensures) ∙ not-false _ (c .before .before .before .before .before .before .before .if1 .left)) (sym (c .before .before .before .before .before .before .is-sound .ensures) ∙ not-false _ (c .before .before .before .before .before .if2 .left)) (sym (c .before .before .before .before .update-answer .ensures) ∙ c .before .before .refusal .given .1))
 
 pub ride-spec : {M : Type 1} → statement M
 ride-spec =

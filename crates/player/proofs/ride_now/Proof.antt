@@ -1,6 +1,6 @@
 -- `ride_now`: 0 ms does nothing; else the loop starts from a core that stands but for what is to be ridden.
 use Rattle.refusal.specs.declared.Answer.the-variants.{Accepted}
-use Rattle.player.proofs.Laws.{calm-answers, ride-idle, ride-made, start-rides}
+use Rattle.player.proofs.Laws.{eventless-answers, ride-idle, ride-made, start-rides}
 use lib.ListN.{length}
 use mathlib.Core.Path.{_≡_, refl}
 use borrow.Author.Needs.{needs}
@@ -11,7 +11,7 @@ plain-requires : tie.Need-plain-requires
 plain-requires c κs = search needs
 
 returns : tie.Need-returns
-returns c = calm-answers _ _ (c .before .before .before .before .before .args .player) _ _ Accepted (c .plain .ensures) (ride-idle (c .before .before .before .before .before .args .player) (c .before .before .before .before .before .args .ms .0) (c .before .before .before .before .before .args .mm .0) (c .before .before .before .before .before .args .profile) (c .before .if1 .taken))
+returns c = eventless-answers _ _ (c .before .before .before .before .before .args .player) _ _ Accepted (c .plain .ensures) (ride-idle (c .before .before .before .before .before .args .player) (c .before .before .before .before .before .args .ms .0) (c .before .before .before .before .before .args .mm .0) (c .before .before .before .before .before .args .profile) (c .before .if1 .taken))
 
 add-totals-requires : tie.Need-add-totals-requires
 add-totals-requires c κs = search needs

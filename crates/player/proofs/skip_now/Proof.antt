@@ -1,5 +1,5 @@
 -- `skip_now`: done does nothing; else the step ends.
-use Rattle.player.proofs.Laws.{calm-answers, skip-idle, skip-made}
+use Rattle.player.proofs.Laws.{eventless-answers, skip-idle, skip-made}
 use Rattle.rounds.proofs.One.{next-fits}
 use Rattle.refusal.specs.declared.Answer.the-variants.{Accepted}
 use native.Mathlib.Omega.{arith}
@@ -11,7 +11,7 @@ plain-requires : tie.Need-plain-requires
 plain-requires c κs = search needs
 
 returns : tie.Need-returns
-returns c = calm-answers _ _ (c .before .before .before .before .before .args .player) _ _ Accepted (c .plain .ensures) (skip-idle (c .before .before .before .before .before .args .player) (c .before .if1 .taken))
+returns c = eventless-answers _ _ (c .before .before .before .before .before .args .player) _ _ Accepted (c .plain .ensures) (skip-idle (c .before .before .before .before .before .args .player) (c .before .if1 .taken))
 
 next-requires : tie.Need-next-requires
 next-requires c κs = (next-fits 0 0 (c .before .before .before .before .before .before .before .before .args .player .workout) (c .before .before .before .before .before .before .before .before .args .player .core) (c .before .before .before .before .before .before .before .before .pre .stands .within), omega (arith, c .before .before .before .before .before .before .before .before .pre .kinds-in), omega (arith, c .before .before .before .before .before .before .before .before .pre .values-in))
