@@ -1,12 +1,11 @@
--- The calls, outcome by outcome.
+-- The calls with their questions, outcome by outcome.
 use mathlib.Core.Path.{_≡_, refl, sym, ap, subst, _∙_}
-use mathlib.Core.Bool.{Bool, true, false, cond, _&&_}
-use mathlib.Core.List.{List}
+use mathlib.Core.Bool.{Bool, true, false, _&&_}
 use Prim.Native.Nat.{ℕ, _+_, _≤_, _<_}
 use native.Mathlib.Omega.{arith}
 use lib.Dec.{leb}
-use borrow.Author.Tests.{leb-true, le-leb, lt-leb, eq-eqb, ne-eqb}
-use Rattle.validation.proofs.Passes.{passes, ask-left, ask-right}
+use borrow.Author.Tests.{leb-true, le-leb, lt-leb}
+use Rattle.validation.proofs.Passes.{ask-left, ask-right}
 use Rattle.common.proofs.Tests.{and-left, and-right}
 use Rattle.refusal.specs.declared.Answer.{Answer}
 use Rattle.refusal.specs.declared.Answer.the-variants.{Accepted, Refused}
@@ -16,23 +15,16 @@ use Rattle.refusal.specs.Number.{ask}
 use Rattle.zones.specs.declared.TrainingProfile.{TrainingProfile}
 use Rattle.zones.specs.Zones.{profileOk}
 use Rattle.model.specs.declared.Workout.{Workout}
-use Rattle.order.specs.Order.{playedLen}
-use Rattle.events.proofs.Laws.{wrote-none}
 use Rattle.readings.specs.declared.Sample.{Sample}
-use Rattle.readings.specs.Readings.{taken, added}
 use Rattle.state.specs.declared.Core.{Core}
-use Rattle.state.specs.State.{readCore}
 use Rattle.state.specs.declared.Player.{Player}
-use Rattle.step_end.specs.declared.Moved.{Moved}
-use Rattle.step_end.specs.StepEnd.{Moves, nextOf}
-use Rattle.rounds.specs.declared.Ride.{Ride}
-use Rattle.rounds.specs.Rounds.{riding, rounds}
-use Rattle.rounds.specs.Contracted.{Rides, Ridden}
-use Rattle.standing.specs.Standing.{standingOf, onPlace, belowEnd, lapOk, cadenceIn}
-use Rattle.standing.specs.Facts.{Within, Stands}
+use Rattle.standing.specs.Standing.{standingOf, belowEnd, lapOk, cadenceIn}
+use Rattle.standing.specs.Facts.{Stands}
 use Rattle.standing.proofs.Known.{known}
-use Rattle.player.specs.declared.Update.{Update}
-use Rattle.player.specs.Calls.{Called, Answers, Supposes, ExtraFits, withCore, addNow, addAnswer, addOf, eventlessUpdate, eventless, answered, playerOf, updateOk, totalsWith, placesOk, updateAnswer, totalled, rideBy, rodeTo, rideNow, rideAnswer, rideOf, skipTo, skipNow, skipAnswer, skipOf}
+use Rattle.updates.specs.declared.Update.{Update}
+use Rattle.state.specs.State.{updateOk}
+use Rattle.updates.specs.Updates.{Supposes, ExtraFits, addNow, eventless, rideNow, skipNow}
+use Rattle.player.specs.Calls.{answered, addAnswer, addOf, totalsWith, placesOk, updateAnswer, rideAnswer, rideOf, skipAnswer, skipOf}
 
 -- a profile that passes its question, and one that does not
 pub sound-yes : (ok : Bool) (r : Refusal) → ask ok r Accepted ≡ Accepted → true ≡ ok
@@ -41,12 +33,6 @@ sound-yes ok r e = sym (ask-left ok r Accepted e)
 pub sound-no : (ok : Bool) (r s : Refusal) → ask ok r Accepted ≡ Refused s → false ≡ ok
 sound-no false r s e = refl
 sound-no true r s e = absurd (let z : _≡_ {A = ℕ} 0 1 = cc in omega arith)
-
--- a call without events
-pub eventless-answers : (ks vs : List ℕ) (p : Player) (u : Update) (o : Called) (a : Answer) → u ≡ eventlessUpdate a p → eventless a p ≡ o → Answers ks vs ks vs u o
-eventless-answers ks vs p u o a e f =
-    subst (λ (o : Called). Answers ks vs ks vs u o) f
-    (subst (λ (u : Update). Answers ks vs ks vs u (eventless a p)) (sym e) (record { answer = refl; player = refl; parts = refl; wrote = wrote-none ks vs 0 }))
 
 -- what passing questions 12 to 14 says
 pub update-passed : (w : Workout) (c : Core) (ms mm k v : ℕ) → Stands 0 0 w c → updateAnswer c ms mm k v ≡ Accepted → Supposes w c ms mm k v
@@ -69,112 +55,28 @@ update-passed w c ms mm k v h e =
       values-in = leb-true 193 v (and-right (leb 193 k) (leb 193 v) d);
     }
 
--- the totals grow by what is then still to be ridden
-pub totalled-stands : (w : Workout) (c : Core) (ms mm : ℕ) → Stands 0 0 w c → c .«total_ms» .0 + ms ≤ 604800000 → c .«total_mm» .0 + mm ≤ 7000000000
-    → Stands ms mm w (totalled ms mm c)
-unfolding onPlace
-totalled-stands w c ms mm s a b =
-    let h : Within 0 0 w c = s .within in
-    record {
-      within =
-          record {
-            valid = h .valid;
-            steps = h .steps;
-            summary-steps = h .summary-steps;
-            steps-done = h .steps-done;
-            skipped = h .skipped;
-            position = h .position;
-            done = h .done;
-            finished = h .finished;
-            step = h .step;
-            tallies = h .tallies;
-            targeted = omega (arith, h .targeted);
-            step-ms = omega (arith, h .step-ms);
-            step-mm = omega (arith, h .step-mm);
-            energy = h .energy;
-            test-ms = omega (arith, h .test-ms);
-            low = omega (arith, h .low);
-            rest = h .rest;
-            place = h .place;
-            long = h .long;
-            next = h .next;
-            cadence = h .cadence;
-            total-ms = a;
-            total-mm = b;
-          };
-      lap = s .lap;
-    }
+module _ (p : Player) (ms mm : ℕ) (f : TrainingProfile) (k v : ℕ) where
+  pub ride-20 : standingOf p ≡ false → eventless (Refused refusals.Standing) p ≡ rideOf p ms mm f k v
+  unfolding rideOf rideAnswer
+  ride-20 e = sym (ap (λ (b : Bool). answered (ask b refusals.Standing (ask (profileOk f) refusals.Profile (updateAnswer (p .core) ms mm k v))) p (rideNow p ms mm f)) e)
 
--- a ride's start
-pub start-rides : (w : Workout) (c : Core) (ms mm k v : ℕ) → Supposes w c ms mm k v
-    → Rides w (record { core = totalled ms mm c; ms = record { 0 = ms }; mm = record { 0 = mm }; count = 0; parts = 0 }) k v
-start-rides w c ms mm k v s =
-    let few : playedLen w ≤ 96 = passes w (s .stands .within .valid) .most in
-    record {
-      stands = totalled-stands w c ms mm (s .stands) (s .total-ms) (s .total-mm);
-      ms = s .ms-in;
-      mm = s .mm-in;
-      parts = omega arith;
-      kinds = λ _. omega (arith, s .kinds-in);
-      values = λ _. omega (arith, s .values-in);
-    }
+  past-20 : standingOf p ≡ true → rideOf p ms mm f k v ≡ answered (ask (profileOk f) refusals.Profile (updateAnswer (p .core) ms mm k v)) p (rideNow p ms mm f)
+  unfolding rideOf rideAnswer
+  past-20 e = ap (λ (b : Bool). answered (ask b refusals.Standing (ask (profileOk f) refusals.Profile (updateAnswer (p .core) ms mm k v))) p (rideNow p ms mm f)) e
 
-module _ (p : Player) (ms mm : ℕ) (f : TrainingProfile) where
-  pub ride-idle : ms ≡ 0 → eventless Accepted p ≡ rideNow p ms mm f
-  unfolding rideNow
-  ride-idle e =
-      sym (ap (λ (b : Bool). rideBy b p (rounds (p .workout) f 97 ms mm (riding (totalled ms mm (p .core)) (p .minute)))) (eq-eqb ms 0 e))
+  pub ride-10 : standingOf p ≡ true → profileOk f ≡ false → eventless (Refused refusals.Profile) p ≡ rideOf p ms mm f k v
+  ride-10 e g = sym (past-20 e ∙ ap (λ (b : Bool). answered (ask b refusals.Profile (updateAnswer (p .core) ms mm k v)) p (rideNow p ms mm f)) g)
 
-  ride-rode : (ms ≡ 0 → ⊥) → rodeTo (p .workout) (rounds (p .workout) f 97 ms mm (riding (totalled ms mm (p .core)) (p .minute))) ≡ rideNow p ms mm f
-  unfolding rideNow
-  ride-rode e =
-      sym (ap (λ (b : Bool). rideBy b p (rounds (p .workout) f 97 ms mm (riding (totalled ms mm (p .core)) (p .minute)))) (ne-eqb ms 0 e))
+  past-10 : standingOf p ≡ true → profileOk f ≡ true → rideOf p ms mm f k v ≡ answered (updateAnswer (p .core) ms mm k v) p (rideNow p ms mm f)
+  past-10 e g = past-20 e ∙ ap (λ (b : Bool). answered (ask b refusals.Profile (updateAnswer (p .core) ms mm k v)) p (rideNow p ms mm f)) g
 
-  pub ride-made : {m' ks vs ks' vs' : List ℕ} (r : Ride) (q : Player) → (ms ≡ 0 → ⊥)
-      → Ridden (p .workout) f (p .minute) m' ks vs ks' vs' (record { core = totalled ms mm (p .core); ms = record { 0 = ms }; mm = record { 0 = mm }; count = 0; parts = 0 }) r
-      → q ≡ playerOf (p .workout) (riding (r .core) m')
-      → Answers ks vs ks' vs' (record { answer = Accepted; player = q; events = r .count; parts = r .parts }) (rideNow p ms mm f)
-  ride-made {m' = m'} {ks = ks} {vs = vs} {ks' = ks'} {vs' = vs'} r q e o eq =
-      subst (λ (k : Called). Answers ks vs ks' vs' (record { answer = Accepted; player = q; events = r .count; parts = r .parts }) k) (ride-rode e)
-      (record { answer = refl; player = eq ∙ ap (playerOf (p .workout)) (o .riding-is); parts = omega (arith, o .parts); wrote = o .wrote })
+  pub ride-refused : (r : Refusal) → standingOf p ≡ true → profileOk f ≡ true → updateAnswer (p .core) ms mm k v ≡ Refused r → eventless (Refused r) p ≡ rideOf p ms mm f k v
+  ride-refused r e g u = sym (past-10 e g ∙ ap (λ (a : Answer). answered a p (rideNow p ms mm f)) u)
 
-  module _ (k v : ℕ) where
-    pub ride-20 : standingOf p ≡ false → eventless (Refused refusals.Standing) p ≡ rideOf p ms mm f k v
-    unfolding rideOf rideAnswer
-    ride-20 e = sym (ap (λ (b : Bool). answered (ask b refusals.Standing (ask (profileOk f) refusals.Profile (updateAnswer (p .core) ms mm k v))) p (rideNow p ms mm f)) e)
-
-    past-20 : standingOf p ≡ true → rideOf p ms mm f k v ≡ answered (ask (profileOk f) refusals.Profile (updateAnswer (p .core) ms mm k v)) p (rideNow p ms mm f)
-    unfolding rideOf rideAnswer
-    past-20 e = ap (λ (b : Bool). answered (ask b refusals.Standing (ask (profileOk f) refusals.Profile (updateAnswer (p .core) ms mm k v))) p (rideNow p ms mm f)) e
-
-    pub ride-10 : standingOf p ≡ true → profileOk f ≡ false → eventless (Refused refusals.Profile) p ≡ rideOf p ms mm f k v
-    ride-10 e g = sym (past-20 e ∙ ap (λ (b : Bool). answered (ask b refusals.Profile (updateAnswer (p .core) ms mm k v)) p (rideNow p ms mm f)) g)
-
-    past-10 : standingOf p ≡ true → profileOk f ≡ true → rideOf p ms mm f k v ≡ answered (updateAnswer (p .core) ms mm k v) p (rideNow p ms mm f)
-    past-10 e g = past-20 e ∙ ap (λ (b : Bool). answered (ask b refusals.Profile (updateAnswer (p .core) ms mm k v)) p (rideNow p ms mm f)) g
-
-    pub ride-refused : (r : Refusal) → standingOf p ≡ true → profileOk f ≡ true → updateAnswer (p .core) ms mm k v ≡ Refused r → eventless (Refused r) p ≡ rideOf p ms mm f k v
-    ride-refused r e g u = sym (past-10 e g ∙ ap (λ (a : Answer). answered a p (rideNow p ms mm f)) u)
-
-    pub ride-taken : standingOf p ≡ true → profileOk f ≡ true → updateAnswer (p .core) ms mm k v ≡ Accepted → rideNow p ms mm f ≡ rideOf p ms mm f k v
-    ride-taken e g u = sym (past-10 e g ∙ ap (λ (a : Answer). answered a p (rideNow p ms mm f)) u)
+  pub ride-taken : standingOf p ≡ true → profileOk f ≡ true → updateAnswer (p .core) ms mm k v ≡ Accepted → rideNow p ms mm f ≡ rideOf p ms mm f k v
+  ride-taken e g u = sym (past-10 e g ∙ ap (λ (a : Answer). answered a p (rideNow p ms mm f)) u)
 
 -- A skip.
-
-pub skip-idle : (p : Player) → p .core .done ≡ true → eventless Accepted p ≡ skipNow p
-unfolding skipNow
-skip-idle p e = sym (ap (λ (b : Bool). cond b (eventless Accepted p) (skipTo p (nextOf (p .workout) true (p .core)))) e)
-
-skip-moved : (p : Player) → p .core .done ≡ false → skipTo p (nextOf (p .workout) true (p .core)) ≡ skipNow p
-unfolding skipNow
-skip-moved p e = sym (ap (λ (b : Bool). cond b (eventless Accepted p) (skipTo p (nextOf (p .workout) true (p .core)))) e)
-
-pub skip-made : {ks vs ks' vs' : List ℕ} (p : Player) (r : Moved) (q : Player) → p .core .done ≡ false
-    → Moves ks vs 0 ks' vs' r (nextOf (p .workout) true (p .core)) → q ≡ playerOf (p .workout) (riding (r .core) (p .minute))
-    → Answers ks vs ks' vs' (record { answer = Accepted; player = q; events = r .count; parts = 0 }) (skipNow p)
-skip-made {ks} {vs} {ks'} {vs'} p r q d o eq =
-    subst (λ (k : Called). Answers ks vs ks' vs' (record { answer = Accepted; player = q; events = r .count; parts = 0 }) k) (skip-moved p d)
-    (record { answer = refl; player = eq ∙ ap (λ (c : Core). playerOf (p .workout) (riding c (p .minute))) (o .core); parts = refl; wrote = o .wrote })
 
 module _ (p : Player) (k v : ℕ) where
   pub skip-20 : standingOf p ≡ false → eventless (Refused refusals.Standing) p ≡ skipOf p k v
@@ -205,9 +107,6 @@ skip-supposes p k v e a b =
       values-in = b;
     }
 
-pub answers-is : {ks vs ks' vs' : List ℕ} {u : Update} {o o' : Called} → o ≡ o' → Answers ks vs ks' vs' u o → Answers ks vs ks' vs' u o'
-answers-is {ks} {vs} {ks'} {vs'} {u} e a = subst (λ (k : Called). Answers ks vs ks' vs' u k) e a
-
 -- question 14
 module _ (c : Core) (k v : ℕ) where
   pub few-kinds : k < 193 → placesOk c k v ≡ false
@@ -236,90 +135,32 @@ extra-fits p e d =
 
 -- Add.
 
--- a reading keeps standing
-pub read-stands : (w : Workout) (c : Core) (sample : Sample) → Stands 0 0 w c → cadenceIn (sample .«cadence_tenths») ≡ true → Stands 0 0 w (readCore sample c)
-unfolding onPlace readCore taken added
-read-stands w c sample s e =
-    let h : Within 0 0 w c = s .within in
-    record {
-      within =
-          record {
-            valid = h .valid;
-            steps = h .steps;
-            summary-steps = h .summary-steps;
-            steps-done = h .steps-done;
-            skipped = h .skipped;
-            position = h .position;
-            done = h .done;
-            finished = h .finished;
-            step = h .step;
-            tallies = h .tallies;
-            targeted = h .targeted;
-            step-ms = h .step-ms;
-            step-mm = h .step-mm;
-            energy = h .energy;
-            test-ms = h .test-ms;
-            low = h .low;
-            rest = h .rest;
-            place = h .place;
-            long = h .long;
-            next = omega arith;
-            cadence = e;
-            total-ms = h .total-ms;
-            total-mm = h .total-mm;
-          };
-      lap = s .lap;
-    }
+module _ (p : Player) (ms mm : ℕ) (sample : Sample) (f : TrainingProfile) (k v : ℕ) where
+  -- the answer after each question
+  abbrev after : Bool → Bool → Bool → Answer
+  after a b c = ask a refusals.Standing (ask b refusals.Profile (ask c refusals.Cadence (updateAnswer (p .core) ms mm k v)))
 
-pub read-supposes : (w : Workout) (c : Core) (sample : Sample) (ms mm k v : ℕ) → Supposes w c ms mm k v → cadenceIn (sample .«cadence_tenths») ≡ true
-    → Supposes w (readCore sample c) ms mm k v
-unfolding readCore
-read-supposes w c sample ms mm k v s e =
-    record {
-      stands = read-stands w c sample (s .stands) e;
-      ms-in = s .ms-in;
-      mm-in = s .mm-in;
-      total-ms = s .total-ms;
-      total-mm = s .total-mm;
-      kinds-in = s .kinds-in;
-      values-in = s .values-in;
-    }
+  add-is : (a b c : Bool) → standingOf p ≡ a → profileOk f ≡ b → cadenceIn (sample .«cadence_tenths») ≡ c
+      → answered (after a b c) p (addNow p ms mm sample f) ≡ addOf p ms mm sample f k v
+  unfolding addOf addAnswer
+  add-is a b c e g h =
+      sym (ap (λ (x : Bool). answered (after x (profileOk f) (cadenceIn (sample .«cadence_tenths»))) p (addNow p ms mm sample f)) e
+      ∙ ap (λ (x : Bool). answered (after a x (cadenceIn (sample .«cadence_tenths»))) p (addNow p ms mm sample f)) g
+      ∙ ap (λ (x : Bool). answered (after a b x) p (addNow p ms mm sample f)) h)
 
-module _ (p : Player) (ms mm : ℕ) (sample : Sample) (f : TrainingProfile) where
-  pub add-idle : ms ≡ 0 → eventless Accepted p ≡ addNow p ms mm sample f
-  unfolding addNow
-  add-idle e = sym (ap (λ (b : Bool). cond b (eventless Accepted p) (rideNow (withCore (readCore sample (p .core)) p) ms mm f)) (eq-eqb ms 0 e))
+  pub add-20 : standingOf p ≡ false → eventless (Refused refusals.Standing) p ≡ addOf p ms mm sample f k v
+  add-20 e = add-is false (profileOk f) (cadenceIn (sample .«cadence_tenths»)) e refl refl
 
-  pub add-rode : (ms ≡ 0 → ⊥) → rideNow (withCore (readCore sample (p .core)) p) ms mm f ≡ addNow p ms mm sample f
-  unfolding addNow
-  add-rode e = sym (ap (λ (b : Bool). cond b (eventless Accepted p) (rideNow (withCore (readCore sample (p .core)) p) ms mm f)) (ne-eqb ms 0 e))
+  pub add-10 : standingOf p ≡ true → profileOk f ≡ false → eventless (Refused refusals.Profile) p ≡ addOf p ms mm sample f k v
+  add-10 e g = add-is true false (cadenceIn (sample .«cadence_tenths»)) e g refl
 
-  module _ (k v : ℕ) where
-    -- the answer after each question
-    abbrev after : Bool → Bool → Bool → Answer
-    after a b c = ask a refusals.Standing (ask b refusals.Profile (ask c refusals.Cadence (updateAnswer (p .core) ms mm k v)))
+  pub add-11 : standingOf p ≡ true → profileOk f ≡ true → cadenceIn (sample .«cadence_tenths») ≡ false → eventless (Refused refusals.Cadence) p ≡ addOf p ms mm sample f k v
+  add-11 e g h = add-is true true false e g h
 
-    add-is : (a b c : Bool) → standingOf p ≡ a → profileOk f ≡ b → cadenceIn (sample .«cadence_tenths») ≡ c
-        → answered (after a b c) p (addNow p ms mm sample f) ≡ addOf p ms mm sample f k v
-    unfolding addOf addAnswer
-    add-is a b c e g h =
-        sym (ap (λ (x : Bool). answered (after x (profileOk f) (cadenceIn (sample .«cadence_tenths»))) p (addNow p ms mm sample f)) e
-        ∙ ap (λ (x : Bool). answered (after a x (cadenceIn (sample .«cadence_tenths»))) p (addNow p ms mm sample f)) g
-        ∙ ap (λ (x : Bool). answered (after a b x) p (addNow p ms mm sample f)) h)
+  pub add-refused : (r : Refusal) → standingOf p ≡ true → profileOk f ≡ true → cadenceIn (sample .«cadence_tenths») ≡ true
+      → updateAnswer (p .core) ms mm k v ≡ Refused r → eventless (Refused r) p ≡ addOf p ms mm sample f k v
+  add-refused r e g h u = sym (ap (λ (a : Answer). answered a p (addNow p ms mm sample f)) u) ∙ add-is true true true e g h
 
-    pub add-20 : standingOf p ≡ false → eventless (Refused refusals.Standing) p ≡ addOf p ms mm sample f k v
-    add-20 e = add-is false (profileOk f) (cadenceIn (sample .«cadence_tenths»)) e refl refl
-
-    pub add-10 : standingOf p ≡ true → profileOk f ≡ false → eventless (Refused refusals.Profile) p ≡ addOf p ms mm sample f k v
-    add-10 e g = add-is true false (cadenceIn (sample .«cadence_tenths»)) e g refl
-
-    pub add-11 : standingOf p ≡ true → profileOk f ≡ true → cadenceIn (sample .«cadence_tenths») ≡ false → eventless (Refused refusals.Cadence) p ≡ addOf p ms mm sample f k v
-    add-11 e g h = add-is true true false e g h
-
-    pub add-refused : (r : Refusal) → standingOf p ≡ true → profileOk f ≡ true → cadenceIn (sample .«cadence_tenths») ≡ true
-        → updateAnswer (p .core) ms mm k v ≡ Refused r → eventless (Refused r) p ≡ addOf p ms mm sample f k v
-    add-refused r e g h u = sym (ap (λ (a : Answer). answered a p (addNow p ms mm sample f)) u) ∙ add-is true true true e g h
-
-    pub add-taken : standingOf p ≡ true → profileOk f ≡ true → cadenceIn (sample .«cadence_tenths») ≡ true → updateAnswer (p .core) ms mm k v ≡ Accepted
-        → addNow p ms mm sample f ≡ addOf p ms mm sample f k v
-    add-taken e g h u = sym (ap (λ (a : Answer). answered a p (addNow p ms mm sample f)) u) ∙ add-is true true true e g h
+  pub add-taken : standingOf p ≡ true → profileOk f ≡ true → cadenceIn (sample .«cadence_tenths») ≡ true → updateAnswer (p .core) ms mm k v ≡ Accepted
+      → addNow p ms mm sample f ≡ addOf p ms mm sample f k v
+  add-taken e g h u = sym (ap (λ (a : Answer). answered a p (addNow p ms mm sample f)) u) ∙ add-is true true true e g h

@@ -1,89 +1,35 @@
 // player.rs's calls that change the player: `read`, ride (the loop of `add` without its `read`), `add`, `skip` and `extend`, with
 // document 01's questions in their order. Each takes the player and gives it back.
 ghost use mathlib.Core.Path.{_≡_};
-ghost use mathlib.Core.Bool.{true};
-ghost use Prim.Native.Nat.{_+_, _≤_};
-ghost use lib.ListN.{length, getD};
-ghost use Rattle.model.specs.Workout.{noStep};
+ghost use Prim.Native.Nat.{_≤_};
+ghost use lib.ListN.{length};
 ghost use Rattle.zones.specs.Zones.{profileOk};
-ghost use Rattle.rounds.specs.Rounds.{riding};
-ghost use Rattle.standing.specs.Standing.{cadenceIn};
-ghost use Rattle.player.specs.Calls.{eventlessUpdate, playerOf, updateAnswer, totalled, withCore, rideNow, rideOf, readOf, skipNow, skipOf, notExtended, longerBy, extendBy, extendOf, ExtraFits, addNow, addOf, Answers, Supposes};
-use model::Length;
-use model::Step;
-use model::Workout;
-use names::Name;
+ghost use Rattle.updates.specs.Updates.{Answers};
+ghost use Rattle.player.specs.Calls.{updateAnswer, rideOf, readOf, skipOf, extendOf, addOf};
 use readings::Sample;
 use refusal::Answer;
 use refusal::Refusal;
-use rounds::Ride;
-use rounds::ride_rounds;
 use standing::cadence_in;
 use standing::is_standing;
 use state::Core;
 use state::Mm;
 use state::Ms;
 use state::Player;
-use step_end::next;
+use updates::Extended;
+use updates::Update;
+use updates::add_now;
+use updates::extend_by;
+use updates::not_extended;
+use updates::plain;
+use updates::ride_now;
+use updates::skip_now;
+use updates::with_core;
 use zones::TrainingProfile;
 
 // What a touch adds to the step on screen.
 pub const EXTEND_S: u32 = 60;
 
 pub const EXTEND_M: u32 = 500;
-
-// What a call gives: its answer, the player after it, the number of its events in the lent arrays, and the rounds that rode.
-pub struct Update {
-    pub answer: Answer,
-    pub player: Player,
-    pub events: usize,
-    pub parts: usize,
-}
-
-// What a touch gives; `extended` is player.rs's own yes or no.
-pub struct Extended {
-    pub answer: Answer,
-    pub player: Player,
-    pub extended: bool,
-}
-
-// A call without events or parts.
-fn plain(player: Player, answer: Answer) -> Update
-    ensures { λ r. ⌜ r ≡ eventlessUpdate answer player ⌝ }
-{
-    Update {
-        answer,
-        player,
-        events: 0,
-        parts: 0,
-    }
-}
-
-fn note_at(steps: [Step; 12], index: u8) -> Name
-    ensures { λ r. ⌜ r ≡ getD steps index noStep .note ⌝ }
-{
-    let i = index as usize;
-    if i < 12 {
-        let step = steps[i];
-        return step.note;
-    }
-    Name::empty()
-}
-
-// The player of a core and its minute; the note is that of the step on now.
-fn player_of(workout: Workout, core: Core, minute: [u16; 60]) -> Player
-    ensures { λ r. ⌜ r ≡ playerOf workout (riding core minute) ⌝ }
-{
-    let on = core.on;
-    let steps = workout.steps;
-    let note = note_at(steps, on.index);
-    Player {
-        core,
-        workout,
-        note,
-        minute,
-    }
-}
 
 // Question 10.
 fn is_sound(profile: TrainingProfile) -> bool
@@ -121,55 +67,6 @@ fn update_answer(core: Core, ms: Ms, mm: Mm, kinds: usize, values: usize) -> Ans
     Answer::Accepted
 }
 
-fn add_totals(core: Core, ms: Ms, mm: Mm) -> Core
-    requires { ⌜ (core .«total_ms» .0 + ms .0 ≤ 604800000) × (core .«total_mm» .0 + mm .0 ≤ 7000000000) ⌝ }
-    ensures { λ r. ⌜ r ≡ totalled (ms .0) (mm .0) core ⌝ }
-{
-    let mut q = core;
-    let total_ms = Ms(q.total_ms.0 + ms.0);
-    let total_mm = Mm(q.total_mm.0 + mm.0);
-    q.total_ms = total_ms;
-    q.total_mm = total_mm;
-    q
-}
-
-// A ride of which nothing is to be asked any more.
-fn ride_now(
-    player: Player,
-    ms: Ms,
-    mm: Mm,
-    profile: TrainingProfile,
-    kinds: &mut [u8],
-    values: &mut [u16],
-) -> Update
-    requires { ⌜ Supposes (player .workout) (player .core) (ms .0) (mm .0) (length (now kinds)) (length (now values)) ⌝ }
-    ensures { λ r. ⌜ Answers (now (kinds .entry)) (now (values .entry)) (now (kinds .exit)) (now (values .exit)) r (rideNow player (ms .0) (mm .0) profile) ⌝ }
-{
-    if ms.0 == 0 {
-        return plain(player, Answer::Accepted);
-    }
-    let workout = player.workout;
-    let core = player.core;
-    let mut minute = player.minute;
-    let begun = add_totals(core, ms, mm);
-    let start = Ride {
-        core: begun,
-        ms,
-        mm,
-        count: 0,
-        parts: 0,
-    };
-    let ride = ride_rounds(workout, profile, start, &mut minute, kinds, values);
-    let after = ride.core;
-    let ridden = player_of(workout, after, minute);
-    Update {
-        answer: Answer::Accepted,
-        player: ridden,
-        events: ride.count,
-        parts: ride.parts,
-    }
-}
-
 // Account `ms` of recorded riding over `mm` under the last reading. Riding past a step's end counts in the steps after it.
 pub fn ride(
     player: Player,
@@ -194,14 +91,6 @@ pub fn ride(
     }
 }
 
-fn with_core(player: Player, core: Core) -> Player
-    ensures { λ r. ⌜ r ≡ withCore core player ⌝ }
-{
-    let mut q = player;
-    q.core = core;
-    q
-}
-
 // Take `sample`'s readings, once per update.
 pub fn read(player: Player, sample: Sample) -> Update
     ensures { λ r. ⌜ r ≡ readOf player sample ⌝ }
@@ -215,132 +104,6 @@ pub fn read(player: Player, sample: Sample) -> Update
         return plain(player, Answer::Refused(Refusal::Cadence));
     }
     plain(with_core(player, core.read(sample)), Answer::Accepted)
-}
-
-// A skip of which nothing is to be asked any more.
-fn skip_now(player: Player, kinds: &mut [u8], values: &mut [u16]) -> Update
-    requires { ⌜ Supposes (player .workout) (player .core) 0 0 (length (now kinds)) (length (now values)) ⌝ }
-    ensures { λ r. ⌜ Answers (now (kinds .entry)) (now (values .entry)) (now (kinds .exit)) (now (values .exit)) r (skipNow player) ⌝ }
-{
-    let core = player.core;
-    if core.done {
-        return plain(player, Answer::Accepted);
-    }
-    let workout = player.workout;
-    let minute = player.minute;
-    let moved = next(workout, core, true, kinds, values, 0);
-    let after = moved.core;
-    let ended = player_of(workout, after, minute);
-    Update {
-        answer: Answer::Accepted,
-        player: ended,
-        events: moved.count,
-        parts: 0,
-    }
-}
-
-// The rider ends the step now, as a lap press does.
-pub fn skip(player: Player, kinds: &mut [u8], values: &mut [u16]) -> Update
-    ensures { λ r. ⌜ Answers (now (kinds .entry)) (now (values .entry)) (now (kinds .exit)) (now (values .exit)) r (skipOf player (length (now (kinds .entry))) (length (now (values .entry)))) ⌝ }
-{
-    if !is_standing(player) {
-        return plain(player, Answer::Refused(Refusal::Standing));
-    }
-    if kinds.len() < 193 {
-        return plain(player, Answer::Refused(Refusal::EventPlaces));
-    }
-    if values.len() < 193 {
-        return plain(player, Answer::Refused(Refusal::EventPlaces));
-    }
-    skip_now(player, kinds, values)
-}
-
-fn not_extended(player: Player, answer: Answer) -> Extended
-    ensures { λ r. ⌜ r ≡ notExtended answer player ⌝ }
-{
-    Extended {
-        answer,
-        player,
-        extended: false,
-    }
-}
-
-// The player with `secs` and `metres` more in the step on now.
-fn longer(player: Player, secs: u32, metres: u32) -> Extended
-    requires { ⌜ (player .core .lap .«extra_s» + secs ≤ 86400) × (player .core .lap .«extra_m» + metres ≤ 1000000) ⌝ }
-    ensures { λ r. ⌜ r ≡ longerBy secs metres player ⌝ }
-{
-    let core = player.core;
-    let lap = core.lap;
-    let more = lap.extended(secs, metres);
-    let mut c = core;
-    c.lap = more;
-    Extended {
-        answer: Answer::Accepted,
-        player: with_core(player, c),
-        extended: true,
-    }
-}
-
-// A touch of which only question 15 is to be asked: `secs` more of a timed step, `metres` more of a distance step.
-fn extend_by(player: Player, secs: u32, metres: u32) -> Extended
-    requires { ⌜ ExtraFits (player .core) secs metres ⌝ }
-    ensures { λ r. ⌜ r ≡ extendBy secs metres (player .core .on .length) player ⌝ }
-{
-    let core = player.core;
-    let lap = core.lap;
-    let on = core.on;
-    let length = on.length;
-    match length {
-        Length::Time(_) => {
-            if lap.extra_s + secs <= 86400 {
-                return longer(player, secs, 0);
-            }
-            not_extended(player, Answer::Refused(Refusal::Extra))
-        }
-        Length::Distance(_) => {
-            if lap.extra_m + metres <= 1000000 {
-                return longer(player, 0, metres);
-            }
-            not_extended(player, Answer::Refused(Refusal::Extra))
-        }
-        Length::Open => not_extended(player, Answer::Accepted),
-    }
-}
-
-// Add time (or distance) to the step on now; open steps need none.
-pub fn extend(player: Player) -> Extended
-    ensures { λ r. ⌜ r ≡ extendOf player ⌝ }
-{
-    let core = player.core;
-    if !is_standing(player) {
-        return not_extended(player, Answer::Refused(Refusal::Standing));
-    }
-    if core.done {
-        return not_extended(player, Answer::Accepted);
-    }
-    extend_by(player, EXTEND_S, EXTEND_M)
-}
-
-// An `add` of which nothing is to be asked any more.
-fn add_now(
-    player: Player,
-    ms: Ms,
-    mm: Mm,
-    sample: Sample,
-    profile: TrainingProfile,
-    kinds: &mut [u8],
-    values: &mut [u16],
-) -> Update
-    requires { ⌜ Supposes (player .workout) (player .core) (ms .0) (mm .0) (length (now kinds)) (length (now values)) × (cadenceIn (sample .«cadence_tenths») ≡ true) ⌝ }
-    ensures { λ r. ⌜ Answers (now (kinds .entry)) (now (values .entry)) (now (kinds .exit)) (now (values .exit)) r (addNow player (ms .0) (mm .0) sample profile) ⌝ }
-{
-    if ms.0 == 0 {
-        return plain(player, Answer::Accepted);
-    }
-    let core = player.core;
-    let taken = with_core(player, core.read(sample));
-    ride_now(taken, ms, mm, profile, kinds, values)
 }
 
 // Account `ms` of recorded riding over `mm` with `sample`'s readings.
@@ -370,4 +133,34 @@ pub fn add(
         Answer::Accepted => add_now(player, ms, mm, sample, profile, kinds, values),
         Answer::Refused(refusal) => plain(player, Answer::Refused(refusal)),
     }
+}
+
+// The rider ends the step now, as a lap press does.
+pub fn skip(player: Player, kinds: &mut [u8], values: &mut [u16]) -> Update
+    ensures { λ r. ⌜ Answers (now (kinds .entry)) (now (values .entry)) (now (kinds .exit)) (now (values .exit)) r (skipOf player (length (now (kinds .entry))) (length (now (values .entry)))) ⌝ }
+{
+    if !is_standing(player) {
+        return plain(player, Answer::Refused(Refusal::Standing));
+    }
+    if kinds.len() < 193 {
+        return plain(player, Answer::Refused(Refusal::EventPlaces));
+    }
+    if values.len() < 193 {
+        return plain(player, Answer::Refused(Refusal::EventPlaces));
+    }
+    skip_now(player, kinds, values)
+}
+
+// Add time (or distance) to the step on now; open steps need none.
+pub fn extend(player: Player) -> Extended
+    ensures { λ r. ⌜ r ≡ extendOf player ⌝ }
+{
+    let core = player.core;
+    if !is_standing(player) {
+        return not_extended(player, Answer::Refused(Refusal::Standing));
+    }
+    if core.done {
+        return not_extended(player, Answer::Accepted);
+    }
+    extend_by(player, EXTEND_S, EXTEND_M)
 }

@@ -1,8 +1,7 @@
 -- player.rs: the calls that report, and `until_end`, with their questions. "Player handed in standing? 20 (first in every player call;
 -- refused by any number, reports give nothing and `until_end` 0 and 0)."
-use mathlib.Core.Bool.{Bool, false, _&&_}
+use mathlib.Core.Bool.{false}
 use Prim.Native.Nat.{ℕ}
-use lib.Dec.{leb}
 use Rattle.refusal.specs.declared.Answer.{Answer}
 use Rattle.refusal.specs.declared.Answer.the-variants.{Accepted, Refused}
 use Rattle.refusal.specs.declared.Refusal.the-variants as refusals
@@ -10,7 +9,7 @@ use Rattle.refusal.specs.Number.{ask}
 use Rattle.zones.specs.declared.TrainingProfile.{TrainingProfile}
 use Rattle.zones.specs.Zones.{profileAnswer}
 use Rattle.state.specs.declared.Player.{Player}
-use Rattle.state.specs.State.{part, untilEnd}
+use Rattle.state.specs.State.{part, untilEnd, updateOk}
 use Rattle.standing.specs.Standing.{standingOf}
 use Rattle.screen.specs.declared.SecsOption.the-variants as seconds
 use Rattle.start.specs.Start.{noSummary}
@@ -45,10 +44,6 @@ distanceBy p (Refused refusal) = record { answer = Refused refusal; distance = f
 
 unfoldable pub distanceOf : Player → DistanceRead
 distanceOf p = distanceBy p (standingAnswer p)
-
--- "`add`, ride and `until_end`: ms at most 86,400,000 and mm at most 1,000,000,000? 12."
-abbrev pub updateOk : ℕ → ℕ → Bool
-updateOk ms mm = leb ms 86400000 && leb mm 1000000000
 
 abbrev pub untilBy : Player → ℕ → ℕ → Answer → PartRead
 untilBy p ms mm Accepted = record { answer = Accepted; part = untilEnd (p .core) ms mm }

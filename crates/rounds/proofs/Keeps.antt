@@ -27,12 +27,12 @@ use Rattle.readings.specs.declared.ComplianceOption.the-variants as how
 use Rattle.state.specs.declared.Summary.{Summary}
 use Rattle.state.specs.declared.StepNow.{StepNow}
 use Rattle.state.specs.declared.Core.{Core}
-use Rattle.state.specs.State.{tallied, stepNow}
+use Rattle.state.specs.State.{tallied, stepNow, freshLap}
 use Rattle.measure.specs.Measure.{Minute, Meter, meter, minuteOf, pushed, pushes, rampPart, measuredBy, measuredOf, lowBy, rampTarget, testIn}
 use Rattle.measure.proofs.Laws.{place-next, places-kept}
 use Rattle.model.specs.Target.{rampOption}
 use Rattle.readings.specs.Readings.{orZero, averageOf}
-use Rattle.step_end.specs.StepEnd.{arrived, nextOf, freshLap, stepAfter, isOver}
+use Rattle.step_end.specs.StepEnd.{arrived, nextOf, stepAfter, isOver}
 use Rattle.steps.specs.Bytes.{intensityKind, lengthKind, lengthValue, targetKind, firstValue, secondValue, thirdValue}
 use Rattle.standing.specs.Standing.{sameStep, sameLength, sameTarget, onPlace, belowEnd, lapOk}
 use Rattle.standing.specs.Facts.{Within, Stands}
@@ -164,7 +164,7 @@ module _ (t : Test) (p : TrainingProfile) (ms mm : ℕ) (s : Riding) (x y : ℕ)
 -- A step's end.
 
 -- a fresh lap is below the end of a sound step
-fresh-below : (l : Length) → lengthOk l ≡ true → belowEnd l freshLap ≡ true
+pub fresh-below : (l : Length) → lengthOk l ≡ true → belowEnd l freshLap ≡ true
 fresh-below (Time secs) h = let some : 0 < secs = ltb-true 0 secs h in lt-ltb 0 ((secs + 0) * 1000) (omega arith)
 fresh-below (Distance metres) h = let some : 100 ≤ metres = leb-true 100 metres h in lt-ltb 0 (min (metres + 0) 4294967295 * 1000) (omega arith)
 fresh-below Open h = refl

@@ -38,7 +38,7 @@ pub next-position : (w : Workout) (skipped : Bool) (c : Core) → nextOf w skipp
 unfolding nextOf arrived
 next-position w skipped c = refl
 
-closed-over : (w : Workout) (p : TrainingProfile) (c : Core) → isOver p c ≡ true → closed w p c ≡ nextOf w false c
+pub closed-over : (w : Workout) (p : TrainingProfile) (c : Core) → isOver p c ≡ true → closed w p c ≡ nextOf w false c
 unfolding closed
 closed-over w p c o = ap (λ (b : Bool). closedBy b w c) o
 
@@ -50,7 +50,7 @@ module _ (w : Workout) (s : Ride) (ks vs : ℕ) (r : Rides w s ks vs) (on : isSt
   ridden = advanced (w .test) p (partOf s .ms .0) (partOf s .mm .0) (riding (s .core) m)
 
   -- a round uses the update up, or ends a step with two events at most
-  used-or-ended : (s .ms .0 - partOf s .ms .0 ≡ 0) ⊎ ((length (after .events) ≤ 2) × (after .core .position ≡ s .core .position + 1))
+  pub used-or-ended : (s .ms .0 - partOf s .ms .0 ≡ 0) ⊎ ((length (after .events) ≤ 2) × (after .core .position ≡ s .core .position + 1))
   unfolding advanced
   used-or-ended = ⊎-elim (λ e. inl (omega arith)) (λ h. inr (ended (reached-over p (ridden .core) h))) (the-part w s ks vs r on .ends)
     where

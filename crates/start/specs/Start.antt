@@ -11,12 +11,11 @@ use Rattle.order.specs.Order.{playedOf, playedLen}
 use Rattle.validation.specs.Sound.{workoutAnswer}
 use Rattle.readings.specs.declared.ReadingOption.the-variants.{None}
 use Rattle.readings.specs.Readings.{noReadings}
-use Rattle.state.specs.declared.Lap.{Lap}
 use Rattle.state.specs.declared.Measured.{Measured}
 use Rattle.state.specs.declared.Summary.{Summary}
 use Rattle.state.specs.declared.Core.{Core}
 use Rattle.state.specs.declared.Player.{Player}
-use Rattle.state.specs.State.{stepNow}
+use Rattle.state.specs.State.{freshLap, stepNow}
 use Rattle.start.specs.declared.NewPlayer.{NewPlayer}
 
 -- Nothing ridden, the first step on.
@@ -35,9 +34,6 @@ noSummary steps =
       finished = false;
     }
 
-abbrev pub noLap : Lap
-noLap = record { «step_ms» = 0; «step_mm» = 0; «extra_s» = 0; «extra_m» = 0 }
-
 abbrev pub noMeasured : Measured
 noMeasured =
     record {
@@ -55,7 +51,7 @@ freshCore steps first =
       steps = steps;
       «total_ms» = record { 0 = 0 };
       «total_mm» = record { 0 = 0 };
-      lap = noLap;
+      lap = freshLap;
       measured = noMeasured;
       summary = noSummary steps;
       on = stepNow first;

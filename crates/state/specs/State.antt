@@ -1,7 +1,7 @@
 -- player.rs's state: its summary, the step on now, and what an update's part is.
-use mathlib.Core.Bool.{cond, _||_}
+use mathlib.Core.Bool.{Bool, cond, _&&_, _||_}
 use Prim.Native.Nat.{ℕ, _+_, _-_, _*_, _/_, _≤_, min}
-use lib.Dec.{ltb, eqb}
+use lib.Dec.{ltb, leb, eqb}
 use Rattle.model.specs.declared.Length.{Length}
 use Rattle.model.specs.declared.Length.the-variants.{Time, Distance, Open}
 use Rattle.order.specs.declared.Played.{Played}
@@ -70,6 +70,10 @@ distanceM metres lap = min (metres + lap .«extra_m») 4294967295
 abbrev pub distanceMm : ℕ → Lap → ℕ
 distanceMm metres lap = distanceM metres lap * 1000
 
+-- The lap of a step's start.
+abbrev pub freshLap : Lap
+freshLap = record { «step_ms» = 0; «step_mm» = 0; «extra_s» = 0; «extra_m» = 0 }
+
 abbrev pub extendedLap : ℕ → ℕ → Lap → Lap
 extendedLap secs metres lap =
     record {
@@ -90,6 +94,12 @@ stepNow p =
       repetition = p .repetition;
       of = p .of;
     }
+
+-- An update.
+
+-- "`add`, ride and `until_end`: ms at most 86,400,000 and mm at most 1,000,000,000? 12."
+abbrev pub updateOk : ℕ → ℕ → Bool
+updateOk ms mm = leb ms 86400000 && leb mm 1000000000
 
 -- The part of an update.
 

@@ -19,7 +19,7 @@ use Rattle.state.specs.declared.Summary.{Summary}
 use Rattle.state.specs.declared.Lap.{Lap}
 use Rattle.state.specs.declared.StepNow.{StepNow}
 use Rattle.state.specs.declared.Core.{Core}
-use Rattle.state.specs.State.{durationMs, distanceMm, stepNow}
+use Rattle.state.specs.State.{durationMs, distanceMm, freshLap, stepNow}
 use Rattle.measure.specs.Measure.{resultOf, rampFailed}
 use Rattle.step_end.specs.declared.Moved.{Moved}
 
@@ -63,9 +63,6 @@ orElse (Some watts) before = Some watts
 
 abbrev pub stepAfter : PlayedOption → StepNow → StepNow
 stepAfter found on = cond (found .found) (stepNow (found .played)) on
-
-abbrev pub freshLap : Lap
-freshLap = record { «step_ms» = 0; «step_mm» = 0; «extra_s» = 0; «extra_m» = 0 }
 
 -- "done + 1, skipped + 1 if marked", "in a `Test` step the result, if any, is kept"
 abbrev pub endedSummary : Bool → Bool → ReadingOption → Summary → Summary

@@ -1,0 +1,5 @@
+pub mod Notes
+pub mod Rides
+pub mod Calls
+pub mod Fresh
+pub mod Few

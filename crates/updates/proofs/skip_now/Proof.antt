@@ -1,0 +1,41 @@
+-- `skip_now`: done does nothing; else the step ends.
+use Rattle.updates.proofs.Laws.{eventless-answers, skip-idle, skip-made}
+use Rattle.rounds.proofs.One.{next-fits}
+use Rattle.refusal.specs.declared.Answer.the-variants.{Accepted}
+use native.Mathlib.Omega.{arith}
+use borrow.Author.Needs.{needs}
+use Rattle.updates.proofs.skip_now.Statement.{statement}
+use Rattle.updates.proofs.skip_now.Tie as tie
+
+plain-requires : tie.Need-plain-requires
+plain-requires c κs = search needs
+
+returns : tie.Need-returns
+returns c = eventless-answers _ _ (c .before .before .before .before .before .args .player) _ _ Accepted (c .plain .ensures) (skip-idle (c .before .before .before .before .before .args .player) (c .before .if1 .taken))
+
+next-requires : tie.Need-next-requires
+next-requires c κs = (next-fits 0 0 (c .before .before .before .before .before .before .before .before .args .player .workout) (c .before .before .before .before .before .before .before .before .args .player .core) (c .before .before .before .before .before .before .before .before .pre .stands .within), omega (arith, c .before .before .before .before .before .before .before .before .pre .kinds-in), omega (arith, c .before .before .before .before .before .before .before .before .pre .values-in))
+
+player-of-requires : tie.Need-player-of-requires
+player-of-requires c κs = search needs
+
+same-length : tie.Need-same-length
+same-length c = search needs
+
+same-length-2 : tie.Need-same-length-2
+same-length-2 c = search needs
+
+returns-2 : tie.Need-returns-2
+returns-2 c = skip-made (c .before .before .before .before .before .before .before .before .before .before .before .before .before .before .before .args .player) (c .before .before .before .before .before .before .next .result) (c .player-of .result) (c .before .before .before .before .before .before .before .before .before .before .before .if1 .left) (c .before .before .before .before .before .before .next .ensures) (c .player-of .ensures)
+
+pub skip-now-spec : {M : Type 1} → statement M
+skip-now-spec =
+    tie.close
+    (tie.spec
+    plain-requires
+    returns
+    next-requires
+    player-of-requires
+    same-length
+    same-length-2
+    returns-2)

@@ -1,0 +1,231 @@
+// player.rs's `read`, ride, `add`, `skip` and `extend` once nothing is left to be asked: what they suppose stands in their `requires`, so
+// that a run of calls can go without asking question 20 at each.
+ghost use mathlib.Core.Path.{_≡_};
+ghost use mathlib.Core.Bool.{true};
+ghost use Prim.Native.Nat.{_+_, _≤_};
+ghost use lib.ListN.{length, getD};
+ghost use Rattle.model.specs.Workout.{noStep};
+ghost use Rattle.rounds.specs.Rounds.{riding};
+ghost use Rattle.standing.specs.Standing.{cadenceIn};
+ghost use Rattle.updates.specs.Updates.{eventlessUpdate, playerOf, totalled, withCore, rideNow, skipNow, notExtended, longerBy, extendBy, ExtraFits, addNow, Answers, Supposes};
+use model::Length;
+use model::Step;
+use model::Workout;
+use names::Name;
+use readings::Sample;
+use refusal::Answer;
+use refusal::Refusal;
+use rounds::Ride;
+use rounds::ride_rounds;
+use state::Core;
+use state::Mm;
+use state::Ms;
+use state::Player;
+use step_end::next;
+use zones::TrainingProfile;
+
+// What a call gives: its answer, the player after it, the number of its events in the lent arrays, and the rounds that rode.
+pub struct Update {
+    pub answer: Answer,
+    pub player: Player,
+    pub events: usize,
+    pub parts: usize,
+}
+
+// What a touch gives; `extended` is player.rs's own yes or no.
+pub struct Extended {
+    pub answer: Answer,
+    pub player: Player,
+    pub extended: bool,
+}
+
+// A call without events or parts.
+pub fn plain(player: Player, answer: Answer) -> Update
+    ensures { λ r. ⌜ r ≡ eventlessUpdate answer player ⌝ }
+{
+    Update {
+        answer,
+        player,
+        events: 0,
+        parts: 0,
+    }
+}
+
+fn note_at(steps: [Step; 12], index: u8) -> Name
+    ensures { λ r. ⌜ r ≡ getD steps index noStep .note ⌝ }
+{
+    let i = index as usize;
+    if i < 12 {
+        let step = steps[i];
+        return step.note;
+    }
+    Name::empty()
+}
+
+// The player of a core and its minute; the note is that of the step on now.
+fn player_of(workout: Workout, core: Core, minute: [u16; 60]) -> Player
+    ensures { λ r. ⌜ r ≡ playerOf workout (riding core minute) ⌝ }
+{
+    let on = core.on;
+    let steps = workout.steps;
+    let note = note_at(steps, on.index);
+    Player {
+        core,
+        workout,
+        note,
+        minute,
+    }
+}
+
+pub fn with_core(player: Player, core: Core) -> Player
+    ensures { λ r. ⌜ r ≡ withCore core player ⌝ }
+{
+    let mut q = player;
+    q.core = core;
+    q
+}
+
+fn add_totals(core: Core, ms: Ms, mm: Mm) -> Core
+    requires { ⌜ (core .«total_ms» .0 + ms .0 ≤ 604800000) × (core .«total_mm» .0 + mm .0 ≤ 7000000000) ⌝ }
+    ensures { λ r. ⌜ r ≡ totalled (ms .0) (mm .0) core ⌝ }
+{
+    let mut q = core;
+    let total_ms = Ms(q.total_ms.0 + ms.0);
+    let total_mm = Mm(q.total_mm.0 + mm.0);
+    q.total_ms = total_ms;
+    q.total_mm = total_mm;
+    q
+}
+
+// A ride of which nothing is to be asked any more.
+pub fn ride_now(
+    player: Player,
+    ms: Ms,
+    mm: Mm,
+    profile: TrainingProfile,
+    kinds: &mut [u8],
+    values: &mut [u16],
+) -> Update
+    requires { ⌜ Supposes (player .workout) (player .core) (ms .0) (mm .0) (length (now kinds)) (length (now values)) ⌝ }
+    ensures { λ r. ⌜ Answers (now (kinds .entry)) (now (values .entry)) (now (kinds .exit)) (now (values .exit)) r (rideNow player (ms .0) (mm .0) profile) ⌝ }
+{
+    if ms.0 == 0 {
+        return plain(player, Answer::Accepted);
+    }
+    let workout = player.workout;
+    let core = player.core;
+    let mut minute = player.minute;
+    let begun = add_totals(core, ms, mm);
+    let start = Ride {
+        core: begun,
+        ms,
+        mm,
+        count: 0,
+        parts: 0,
+    };
+    let ride = ride_rounds(workout, profile, start, &mut minute, kinds, values);
+    let after = ride.core;
+    let ridden = player_of(workout, after, minute);
+    Update {
+        answer: Answer::Accepted,
+        player: ridden,
+        events: ride.count,
+        parts: ride.parts,
+    }
+}
+
+// An `add` of which nothing is to be asked any more.
+pub fn add_now(
+    player: Player,
+    ms: Ms,
+    mm: Mm,
+    sample: Sample,
+    profile: TrainingProfile,
+    kinds: &mut [u8],
+    values: &mut [u16],
+) -> Update
+    requires { ⌜ Supposes (player .workout) (player .core) (ms .0) (mm .0) (length (now kinds)) (length (now values)) × (cadenceIn (sample .«cadence_tenths») ≡ true) ⌝ }
+    ensures { λ r. ⌜ Answers (now (kinds .entry)) (now (values .entry)) (now (kinds .exit)) (now (values .exit)) r (addNow player (ms .0) (mm .0) sample profile) ⌝ }
+{
+    if ms.0 == 0 {
+        return plain(player, Answer::Accepted);
+    }
+    let core = player.core;
+    let taken = with_core(player, core.read(sample));
+    ride_now(taken, ms, mm, profile, kinds, values)
+}
+
+// A skip of which nothing is to be asked any more.
+pub fn skip_now(player: Player, kinds: &mut [u8], values: &mut [u16]) -> Update
+    requires { ⌜ Supposes (player .workout) (player .core) 0 0 (length (now kinds)) (length (now values)) ⌝ }
+    ensures { λ r. ⌜ Answers (now (kinds .entry)) (now (values .entry)) (now (kinds .exit)) (now (values .exit)) r (skipNow player) ⌝ }
+{
+    let core = player.core;
+    if core.done {
+        return plain(player, Answer::Accepted);
+    }
+    let workout = player.workout;
+    let minute = player.minute;
+    let moved = next(workout, core, true, kinds, values, 0);
+    let after = moved.core;
+    let ended = player_of(workout, after, minute);
+    Update {
+        answer: Answer::Accepted,
+        player: ended,
+        events: moved.count,
+        parts: 0,
+    }
+}
+
+pub fn not_extended(player: Player, answer: Answer) -> Extended
+    ensures { λ r. ⌜ r ≡ notExtended answer player ⌝ }
+{
+    Extended {
+        answer,
+        player,
+        extended: false,
+    }
+}
+
+// The player with `secs` and `metres` more in the step on now.
+fn longer(player: Player, secs: u32, metres: u32) -> Extended
+    requires { ⌜ (player .core .lap .«extra_s» + secs ≤ 86400) × (player .core .lap .«extra_m» + metres ≤ 1000000) ⌝ }
+    ensures { λ r. ⌜ r ≡ longerBy secs metres player ⌝ }
+{
+    let core = player.core;
+    let lap = core.lap;
+    let more = lap.extended(secs, metres);
+    let mut c = core;
+    c.lap = more;
+    Extended {
+        answer: Answer::Accepted,
+        player: with_core(player, c),
+        extended: true,
+    }
+}
+
+// A touch of which only question 15 is to be asked: `secs` more of a timed step, `metres` more of a distance step.
+pub fn extend_by(player: Player, secs: u32, metres: u32) -> Extended
+    requires { ⌜ ExtraFits (player .core) secs metres ⌝ }
+    ensures { λ r. ⌜ r ≡ extendBy secs metres (player .core .on .length) player ⌝ }
+{
+    let core = player.core;
+    let lap = core.lap;
+    let on = core.on;
+    let length = on.length;
+    match length {
+        Length::Time(_) => {
+            if lap.extra_s + secs <= 86400 {
+                return longer(player, secs, 0);
+            }
+            not_extended(player, Answer::Refused(Refusal::Extra))
+        }
+        Length::Distance(_) => {
+            if lap.extra_m + metres <= 1000000 {
+                return longer(player, 0, metres);
+            }
+            not_extended(player, Answer::Refused(Refusal::Extra))
+        }
+        Length::Open => not_extended(player, Answer::Accepted),
+    }
+}
