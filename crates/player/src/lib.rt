@@ -41,8 +41,8 @@ fn is_sound(profile: TrainingProfile) -> bool
     }
 }
 
-// Questions 12 to 14.
-fn update_answer(core: Core, ms: Ms, mm: Mm, kinds: usize, values: usize) -> Answer
+// Questions 12 to 14, of a core whose totals are within their limits.
+pub fn update_answer(core: Core, ms: Ms, mm: Mm, kinds: usize, values: usize) -> Answer
     requires { ⌜ (core .«total_ms» .0 ≤ 604800000) × (core .«total_mm» .0 ≤ 7000000000) ⌝ }
     ensures { λ r. ⌜ r ≡ updateAnswer core (ms .0) (mm .0) kinds values ⌝ }
 {
