@@ -1,5 +1,6 @@
 //! Inputs for each question: its limits, and random ones from a seed.
 pub mod files;
+pub mod records;
 
 use questions::*;
 

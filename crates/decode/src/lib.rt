@@ -58,7 +58,7 @@ pub struct Decoded {
     pub workout: Workout,
 }
 
-fn test_of(kind: u8) -> TestOption
+pub fn test_of(kind: u8) -> TestOption
     ensures { λ r. ⌜ r ≡ testOf kind ⌝ }
 {
     match kind {

@@ -1,0 +1,219 @@
+// history.rs: how a ride's workout went, as a record of 70 bytes, and its reader. Little-endian:
+//
+// | Bytes | Field |
+// | --- | --- |
+// | 0..4 | magic `VWKO` |
+// | 4 | version, 1 |
+// | 5 | body length `n` before the check word: 66 in version 1 |
+// | 6 | journal: `i` internal, `b` bulk |
+// | 7 | flags: 1 finished, 2 start time known, 4 FTP measured |
+// | 8..12 | ride id in that journal |
+// | 12..20 | ride start, UTC ms (0 when unknown) |
+// | 20 | name length, then 20 name bytes |
+// | 41 | test: 0 none, 1 twenty minutes, 2 ramp |
+// | 42..48 | steps done, steps, skipped (u16 each) |
+// | 48..64 | targeted, in, under and over target ms (u32 each) |
+// | 64..66 | FTP the test measured, W |
+// | n..n+4 | check word of bytes 0..n |
+//
+// Later versions only append fields before the check word and raise the version; the reader takes the fields it knows from any
+// version at least 1. What a record is written as is a definition here (specs/Record.antt).
+ghost use mathlib.Core.Path.{_≡_};
+ghost use Prim.Native.Nat.{_≤_};
+ghost use lib.ListN.{length, getD};
+ghost use Rattle.readings.specs.Readings.{readingAt};
+ghost use Rattle.history.specs.Record.{startAt, RecordSize};
+ghost use Rattle.history.specs.Decode.{flagSet, begins, isWhole, nameIn, summaryIn, recordIn, noRecord, decodeOf};
+ghost use Rattle.history.specs.Samples.{Samples};
+use decode::TestOption;
+use decode::test_of;
+use model::Test;
+use names::NAME_BYTES;
+use names::Name;
+use readings::ReadingOption;
+use refusal::Answer;
+use refusal::Refusal;
+use state::Summary;
+
+// The oldest version, and its body bytes before the check word.
+const VERSION_1: u8 = 1;
+
+const BODY_V1: usize = 66;
+
+const FINISHED: u8 = 1;
+
+const DATED: u8 = 2;
+
+const MEASURED: u8 = 4;
+
+// When a ride started, UTC ms, if that is known.
+pub enum StartOption {
+    None,
+    Some(u64),
+}
+
+pub struct Record {
+    // `i` for the internal journal, `b` for the bulk log.
+    pub journal: u8,
+    pub ride_id: u32,
+    pub started_utc_ms: StartOption,
+    pub name: Name,
+    pub test: Test,
+    pub summary: Summary,
+}
+
+// The record read, or the refusal with a record of zeros.
+pub struct RecordRead {
+    pub answer: Answer,
+    pub record: Record,
+}
+
+fn size_of(byte: u8) -> usize
+    ensures { λ r. ⌜ (r ≡ byte) × (r ≤ 255) ⌝ }
+{
+    byte as usize
+}
+
+// Whether the flag of this value is among the flags.
+fn is_set(flags: u8, value: u8) -> bool
+    requires { ⌜ 1 ≤ value ⌝ }
+    ensures { λ r. ⌜ r ≡ flagSet flags value ⌝ }
+{
+    flags / value % 2 == 1
+}
+
+fn start_of(dated: bool, ms: u64) -> StartOption
+    ensures { λ r. ⌜ r ≡ startAt dated ms ⌝ }
+{
+    if dated {
+        StartOption::Some(ms)
+    } else {
+        StartOption::None
+    }
+}
+
+fn ftp_of(measured: bool, watts: u16) -> ReadingOption
+    ensures { λ r. ⌜ r ≡ readingAt measured watts ⌝ }
+{
+    if measured {
+        ReadingOption::Some(watts)
+    } else {
+        ReadingOption::None
+    }
+}
+
+// "VWKO".
+fn has_magic(bytes: &[u8]) -> bool
+    requires { ⌜ 4 ≤ length (now bytes) ⌝ }
+    ensures { λ r. ⌜ r ≡ begins (now (bytes .entry)) ⌝ }
+{
+    (bytes[0] == 86) & (bytes[1] == 87) & (bytes[2] == 75) & (bytes[3] == 79)
+}
+
+// A body of some version from 1 on with its check word behind it.
+fn is_whole(bytes: &[u8]) -> bool
+    ensures { λ r. ⌜ r ≡ isWhole (now (bytes .entry)) ⌝ }
+{
+    if bytes.len() < 6 {
+        return false;
+    }
+    if !has_magic(bytes) {
+        return false;
+    }
+    if bytes[4] < VERSION_1 {
+        return false;
+    }
+    let body = size_of(bytes[5]);
+    if body < BODY_V1 {
+        return false;
+    }
+    if bytes.len() < body + 4 {
+        return false;
+    }
+    checksum::crc32(&bytes[..body]) == le::get_u32(bytes, body)
+}
+
+fn read_name(bytes: &[u8]) -> Name
+    requires { ⌜ (70 ≤ length (now bytes)) × (getD (now bytes) 20 0 ≤ 20) ⌝ }
+    ensures { λ r. ⌜ r ≡ nameIn (now (bytes .entry)) ⌝ }
+{
+    let end = 21 + size_of(bytes[20]);
+    Name::from_bytes(&bytes[21..end])
+}
+
+fn read_summary(bytes: &[u8]) -> Summary
+    requires { ⌜ 70 ≤ length (now bytes) ⌝ }
+    ensures { λ r. ⌜ r ≡ summaryIn (now (bytes .entry)) ⌝ }
+{
+    let flags = bytes[7];
+    Summary {
+        targeted_ms: le::get_u32(bytes, 48) as u64,
+        in_ms: le::get_u32(bytes, 52) as u64,
+        under_ms: le::get_u32(bytes, 56) as u64,
+        over_ms: le::get_u32(bytes, 60) as u64,
+        ftp: ftp_of(is_set(flags, MEASURED), le::get_u16(bytes, 64)),
+        steps_done: le::get_u16(bytes, 42),
+        steps: le::get_u16(bytes, 44),
+        skipped: le::get_u16(bytes, 46),
+        finished: is_set(flags, FINISHED),
+    }
+}
+
+fn read_record(bytes: &[u8], test: Test) -> Record
+    requires { ⌜ (70 ≤ length (now bytes)) × (getD (now bytes) 20 0 ≤ 20) ⌝ }
+    ensures { λ r. ⌜ r ≡ recordIn (now (bytes .entry)) test ⌝ }
+{
+    Record {
+        journal: bytes[6],
+        ride_id: le::get_u32(bytes, 8),
+        started_utc_ms: start_of(is_set(bytes[7], DATED), le::get_u64(bytes, 12)),
+        name: read_name(bytes),
+        test,
+        summary: read_summary(bytes),
+    }
+}
+
+fn no_record() -> RecordRead
+    ensures { λ r. ⌜ r ≡ noRecord ⌝ }
+{
+    RecordRead {
+        answer: Answer::Refused(Refusal::Record),
+        record: Record {
+            journal: 0,
+            ride_id: 0,
+            started_utc_ms: StartOption::None,
+            name: Name::empty(),
+            test: Test::None,
+            summary: start::no_summary(0),
+        },
+    }
+}
+
+// A record of any version from 1 on, or question 18 if damaged or foreign.
+pub fn decode(bytes: &[u8]) -> RecordRead
+    ensures { λ r. ⌜ r ≡ decodeOf (now (bytes .entry)) ⌝ }
+{
+    if !is_whole(bytes) {
+        return no_record();
+    }
+    if (NAME_BYTES as u8) < bytes[20] {
+        return no_record();
+    }
+    let TestOption::Some(test) = test_of(bytes[41]) else {
+        return no_record();
+    };
+    RecordRead {
+        answer: Answer::Accepted,
+        record: read_record(bytes, test),
+    }
+}
+
+// A record's bytes are 70. It does nothing: its contract is the statement.
+pub fn record_size()
+    ensures { λ _. ⌜ RecordSize ⌝ }
+{}
+
+// What the Rust writes for some rides is what the definition gives. It does nothing: its contract is the statement.
+pub fn rust_samples()
+    ensures { λ _. ⌜ Samples ⌝ }
+{}
