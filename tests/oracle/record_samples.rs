@@ -76,10 +76,6 @@ fn ride(ride: &Ride) -> String {
 fn main() {
     println!("{HEAD}");
     for (i, sample) in samples().iter().enumerate() {
-        println!(
-            "  pub ride-{i} : recordBytes\n      ({})\n      ≡ {}",
-            ride(sample),
-            rows(&encode(&sample.record()))
-        );
+        println!("  pub ride-{i} : recordBytes\n      ({})\n      ≡ {}", ride(sample), rows(&encode(&sample.record())));
     }
 }

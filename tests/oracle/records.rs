@@ -49,11 +49,11 @@ fn summary(steps: [u16; 3], ms: [u64; 4], finished: bool, ftp: Option<u16>) -> S
 /// without an FTP, each flag alone, each test, names of 0, 1, 19 and 20 bytes, and all bytes of each number different.
 pub fn samples() -> Vec<Ride> {
     const LIMIT: u64 = 4_294_967_295;
-    let plain = |journal, id, start, dated, name, test, summary| Ride { journal, id, start, dated, name, test, summary };
+    let ride = |journal, id, start, dated, name, test, summary| Ride { journal, id, start, dated, name, test, summary };
     let none = summary([0; 3], [0; 4], false, None);
     vec![
-        plain(0, 0, 0, false, "", None, none),
-        plain(
+        ride(0, 0, 0, false, "", None, none),
+        ride(
             b'i',
             7,
             1_700_000_000_000,
@@ -62,7 +62,7 @@ pub fn samples() -> Vec<Ride> {
             Some(Test::Twenty),
             summary([12, 12, 1], [3_600_000, 3_000_000, 400_000, 200_000], true, Some(250)),
         ),
-        plain(
+        ride(
             b'b',
             u32::MAX,
             u64::MAX,
@@ -71,26 +71,21 @@ pub fn samples() -> Vec<Ride> {
             Some(Test::Ramp),
             summary([65_535; 3], [LIMIT + 1, u64::MAX, LIMIT, LIMIT + 2], false, None),
         ),
-        plain(b'b', 1, 0, true, "~", None, summary([0, 1, 0], [LIMIT - 1, 1, 2, 3], false, Some(0))),
-        plain(b'i', 2, 77, false, "4X4", None, summary([96; 3], [1, 0, 0, 1], true, Some(65_535))),
-        plain(b'i', 3, 0, false, "", None, summary([1, 1, 0], [0; 4], true, None)),
-        plain(b'i', 4, 1, true, "", None, none),
-        plain(b'i', 5, 0, false, "", Some(Test::Ramp), summary([0, 1, 0], [0; 4], false, Some(50))),
-        plain(
+        ride(b'b', 1, 0, true, "~", None, summary([0, 1, 0], [LIMIT - 1, 1, 2, 3], false, Some(0))),
+        ride(b'i', 2, 77, false, "4X4", None, summary([96; 3], [1, 0, 0, 1], true, Some(65_535))),
+        ride(b'i', 3, 0, false, "", None, summary([1, 1, 0], [0; 4], true, None)),
+        ride(b'i', 4, 1, true, "", None, none),
+        ride(b'i', 5, 0, false, "", Some(Test::Ramp), summary([0, 1, 0], [0; 4], false, Some(50))),
+        ride(
             255,
             0x0403_0201,
             0x0C0B_0A09_0807_0605,
             true,
             "ABCDEFGHIJKLMNOPQRS",
             Some(Test::Twenty),
-            summary(
-                [0x0E0D, 0x100F, 0x1211],
-                [0x1615_1413, 0x1A19_1817, 0x1E1D_1C1B, 0x2221_201F],
-                true,
-                Some(0x2423),
-            ),
+            summary([0x0E0D, 0x100F, 0x1211], [0x1615_1413, 0x1A19_1817, 0x1E1D_1C1B, 0x2221_201F], true, Some(0x2423)),
         ),
-        plain(
+        ride(
             b'b',
             256,
             256,

@@ -23,7 +23,7 @@ use model::Workout;
 use names::Name;
 
 // A name's length, then its 20 bytes, four to a word.
-fn text_word(name: Name, place: u32) -> u32
+pub fn text_word(name: Name, place: u32) -> u32
     ensures { λ r. ⌜ r ≡ textWord name place ⌝ }
 {
     let bytes = name.bytes;

@@ -1,0 +1,59 @@
+-- The words of the answers on ride records, from the definition of reading; tests/oracle/compare_records.rs has the layout.
+use mathlib.Core.Bool.{cond}
+use mathlib.Core.List.{List, [], _∷_}
+use Prim.Native.Nat.{ℕ, _-_, _/_, _%_}
+use lib.Dec.{ltb}
+use lib.ListN.{getD}
+use Rattle.refusal.specs.Number.{answerNumber}
+use Rattle.encode.specs.Encode.{testKind}
+use Rattle.readings.specs.declared.ReadingOption.{ReadingOption}
+use Rattle.readings.specs.declared.ReadingOption.the-variants as reading
+use Rattle.state.specs.declared.Summary.{Summary}
+use Rattle.history.specs.declared.StartOption.{StartOption}
+use Rattle.history.specs.declared.StartOption.the-variants as start
+use Rattle.history.specs.declared.RecordRead.{RecordRead}
+use Rattle.compare_files.specs.Files.{textWord}
+
+-- the lower 32 bits at place 0, the upper ones behind them
+unfoldable pub halfWord : ℕ → ℕ → ℕ
+halfWord n place = getD (n % 4294967296 ∷ []) place (n / 4294967296)
+
+-- 1 and the start, or 0
+unfoldable pub startWord : StartOption → ℕ → ℕ
+startWord start.None place = 0
+startWord (start.Some ms) place = getD (1 ∷ []) place (halfWord ms (place - 1))
+
+-- 1 and the watts, or 0
+unfoldable pub ftpWord : ReadingOption → ℕ → ℕ
+ftpWord reading.None place = 0
+ftpWord (reading.Some watts) place = getD (1 ∷ []) place watts
+
+-- 7 words: refusal, journal, ride id, test, start
+abbrev pub headFacts : RecordRead → List ℕ
+headFacts read = answerNumber (read .answer) ∷ read .«record» .journal ∷ read .«record» .«ride_id» ∷ testKind (read .«record» .test) ∷ []
+
+unfoldable pub headWord : RecordRead → ℕ → ℕ
+headWord read place = getD (headFacts read) place (startWord (read .«record» .«started_utc_ms») (place - 4))
+
+-- 6 words: steps done, steps, skipped, 1 if finished, FTP
+abbrev pub countFacts : Summary → List ℕ
+countFacts s = s .«steps_done» ∷ s .steps ∷ s .skipped ∷ cond (s .finished) 1 0 ∷ []
+
+unfoldable pub countWord : Summary → ℕ → ℕ
+countWord s place = getD (countFacts s) place (ftpWord (s .ftp) (place - 4))
+
+-- 8 words: targeted, in, under, over
+abbrev pub tallies : Summary → List ℕ
+tallies s = s .«targeted_ms» ∷ s .«in_ms» ∷ s .«under_ms» ∷ []
+
+unfoldable pub tallyWord : Summary → ℕ → ℕ
+tallyWord s place = halfWord (getD (tallies s) (place / 2) (s .«over_ms»)) (place % 2)
+
+unfoldable pub summaryWord : Summary → ℕ → ℕ
+summaryWord s place = cond (ltb place 6) (countWord s place) (tallyWord s (place - 6))
+
+-- what was read of a record; the name comes last
+unfoldable pub readWord : RecordRead → ℕ → ℕ
+readWord read place =
+    cond (ltb place 7) (headWord read place)
+    (cond (ltb place 21) (summaryWord (read .«record» .summary) (place - 7)) (textWord (read .«record» .name) (place - 21)))

@@ -1,0 +1,131 @@
+// Answers of this repository on ride records (tests/oracle/compare_records.rs), for tests only: what is read of a record, one word at
+// a time.
+ghost use mathlib.Core.Path.{_≡_};
+ghost use mathlib.Core.Bool.{cond};
+ghost use Rattle.history.specs.Decode.{decodeOf};
+ghost use Rattle.compare_records.specs.Records.{halfWord, startWord, ftpWord, headWord, countWord, tallyWord, summaryWord, readWord};
+use compare::refused_number;
+use compare_files::text_word;
+use encode::test_kind;
+use history::RecordRead;
+use history::StartOption;
+use history::decode;
+use readings::ReadingOption;
+use state::Summary;
+
+// The lower 32 bits at place 0, the upper ones behind them.
+fn half_word(number: u64, place: u32) -> u32
+    ensures { λ r. ⌜ r ≡ halfWord number place ⌝ }
+{
+    match place {
+        0 => (number % 4294967296) as u32,
+        _ => (number / 4294967296) as u32,
+    }
+}
+
+fn yes_word(yes: bool) -> u32
+    ensures { λ r. ⌜ r ≡ cond yes 1 0 ⌝ }
+{
+    if yes { 1 } else { 0 }
+}
+
+// 1 and the start, or 0.
+fn start_word(start: StartOption, place: u32) -> u32
+    ensures { λ r. ⌜ r ≡ startWord start place ⌝ }
+{
+    match start {
+        StartOption::None => 0,
+        StartOption::Some(ms) => match place {
+            0 => 1,
+            _ => half_word(ms, place - 1),
+        },
+    }
+}
+
+// 1 and the watts, or 0.
+fn ftp_word(ftp: ReadingOption, place: u32) -> u32
+    ensures { λ r. ⌜ r ≡ ftpWord ftp place ⌝ }
+{
+    match ftp {
+        ReadingOption::None => 0,
+        ReadingOption::Some(watts) => match place {
+            0 => 1,
+            _ => watts as u32,
+        },
+    }
+}
+
+fn head_word(read: RecordRead, place: u32) -> u32
+    ensures { λ r. ⌜ r ≡ headWord read place ⌝ }
+{
+    let answer = read.answer;
+    let record = read.record;
+    let test = record.test;
+    let start = record.started_utc_ms;
+    match place {
+        0 => refused_number(answer),
+        1 => record.journal as u32,
+        2 => record.ride_id,
+        3 => test_kind(test) as u32,
+        _ => start_word(start, place - 4),
+    }
+}
+
+fn count_word(summary: Summary, place: u32) -> u32
+    ensures { λ r. ⌜ r ≡ countWord summary place ⌝ }
+{
+    let ftp = summary.ftp;
+    match place {
+        0 => summary.steps_done as u32,
+        1 => summary.steps as u32,
+        2 => summary.skipped as u32,
+        3 => yes_word(summary.finished),
+        _ => ftp_word(ftp, place - 4),
+    }
+}
+
+// The tallies, two words each.
+fn tally_word(summary: Summary, place: u32) -> u32
+    ensures { λ r. ⌜ r ≡ tallyWord summary place ⌝ }
+{
+    let half = place % 2;
+    match place / 2 {
+        0 => half_word(summary.targeted_ms, half),
+        1 => half_word(summary.in_ms, half),
+        2 => half_word(summary.under_ms, half),
+        _ => half_word(summary.over_ms, half),
+    }
+}
+
+fn summary_word(summary: Summary, place: u32) -> u32
+    ensures { λ r. ⌜ r ≡ summaryWord summary place ⌝ }
+{
+    if place < 6 {
+        count_word(summary, place)
+    } else {
+        tally_word(summary, place - 6)
+    }
+}
+
+fn read_word(read: RecordRead, place: u32) -> u32
+    ensures { λ r. ⌜ r ≡ readWord read place ⌝ }
+{
+    let record = read.record;
+    let summary = record.summary;
+    let name = record.name;
+    if place < 7 {
+        return head_word(read, place);
+    }
+    if place < 21 {
+        return summary_word(summary, place - 7);
+    }
+    text_word(name, place - 21)
+}
+
+// A word of what is read of a record: 27 in all.
+#[no_mangle]
+pub extern "C" fn record_word(bytes: &[u8], place: u32) -> u32
+    ensures { λ r. ⌜ r ≡ readWord (decodeOf (now (bytes .entry))) place ⌝ }
+{
+    read_word(decode(bytes), place)
+}
