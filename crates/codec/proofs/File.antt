@@ -52,7 +52,7 @@ use Rattle.codec.proofs.Names.{name-len, name-back}
 use Rattle.codec.proofs.Steps.{step-back}
 use Rattle.codec.proofs.Many.{Back, many-back}
 
-test-back : (t : Test) → testOf (testKind t) ≡ testOption.Some t
+pub test-back : (t : Test) → testOf (testKind t) ≡ testOption.Some t
 unfolding testOf
 test-back tests.None = refl
 test-back tests.Twenty = refl

@@ -26,7 +26,7 @@ module _ (n : Name) (sized : Sized n) (ok : nameOk n ≡ true) where
   unfolding nameOk
   name-len = leb-true (n .len) 20 (and-left (leb (n .len) 20) (all allowed (asBytes n) && all isZero (drop (n .len) (n .bytes))) ok)
 
-  text : all allowed (asBytes n) ≡ true
+  pub text : all allowed (asBytes n) ≡ true
   unfolding nameOk
   text = and-left (all allowed (asBytes n)) (all isZero (drop (n .len) (n .bytes))) (and-right (leb (n .len) 20) (all allowed (asBytes n) && all isZero (drop (n .len) (n .bytes))) ok)
 
@@ -34,11 +34,11 @@ module _ (n : Name) (sized : Sized n) (ok : nameOk n ≡ true) where
   unfolding nameOk
   zeros = and-right (all allowed (asBytes n)) (all isZero (drop (n .len) (n .bytes))) (and-right (leb (n .len) 20) (all allowed (asBytes n) && all isZero (drop (n .len) (n .bytes))) ok)
 
-  text-length : length (asBytes n) ≡ n .len
+  pub text-length : length (asBytes n) ≡ n .len
   text-length = length-take-le (n .len) (n .bytes) (omega (arith, name-len))
 
   -- the name of its own bytes
-  made-again : nameOf (asBytes n) ≡ n
+  pub made-again : nameOf (asBytes n) ≡ n
   made-again =
       ap₂ (λ (bytes : List ℕ) (len : ℕ). record { bytes = bytes; len = len })
       (ap (λ (k : ℕ). asBytes n ++ replicate k 0) rest

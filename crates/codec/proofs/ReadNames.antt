@@ -32,7 +32,7 @@ module _ (text : List ℕ) (short : length text ≤ 20) where
   unfolding nameBytes
   text-bytes = ap (λ (l : List ℕ). length text ∷ l) (padded-used 20 0 text (length text) refl)
 
-  text-ok : all allowed text ≡ true → nameOk (nameOf text) ≡ true
+  pub text-ok : all allowed text ≡ true → nameOk (nameOf text) ≡ true
   unfolding nameOk
   text-ok a =
       and-both (le-leb (length text) 20 short)

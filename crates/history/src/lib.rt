@@ -19,12 +19,13 @@
 // Later versions only append fields before the check word and raise the version; the reader takes the fields it knows from any
 // version at least 1. What a record is written as is a definition here (specs/Record.antt).
 ghost use mathlib.Core.Path.{_≡_};
-ghost use Prim.Native.Nat.{_≤_};
+ghost use Prim.Native.Nat.{_≤_, _<_};
 ghost use lib.ListN.{length, getD};
-ghost use Rattle.readings.specs.Readings.{readingAt};
-ghost use Rattle.history.specs.Record.{startAt, RecordSize};
+ghost use Rattle.readings.specs.Readings.{orZero, readingAt};
+ghost use Rattle.history.specs.Record.{startAt, startMs, RecordSize};
 ghost use Rattle.history.specs.Decode.{flagSet, begins, isWhole, nameIn, summaryIn, recordIn, noRecord, decodeOf};
 ghost use Rattle.history.specs.Samples.{Samples};
+ghost use Rattle.history.specs.RoundTrip.{RecordTyped, WrittenIsRead, ReadFits};
 use decode::TestOption;
 use decode::test_of;
 use model::Test;
@@ -217,3 +218,42 @@ pub fn record_size()
 pub fn rust_samples()
     ensures { λ _. ⌜ Samples ⌝ }
 {}
+
+// A record written and read again is the same exactly when its fields fit. It does nothing: its contract is the statement.
+pub fn written_is_read()
+    ensures { λ _. ⌜ WrittenIsRead ⌝ }
+{}
+
+// A record that was read is the same again when it is written and read. It does nothing: its contract is the statement.
+pub fn read_fits()
+    ensures { λ _. ⌜ ReadFits ⌝ }
+{}
+
+fn start_typed(start: StartOption)
+    ensures { λ _. ⌜ startMs start < 18446744073709551616 ⌝ }
+{
+    match start {
+        StartOption::None => {}
+        StartOption::Some(_ms) => {}
+    }
+}
+
+fn ftp_typed(ftp: ReadingOption)
+    ensures { λ _. ⌜ orZero ftp < 65536 ⌝ }
+{
+    match ftp {
+        ReadingOption::None => {}
+        ReadingOption::Some(_watts) => {}
+    }
+}
+
+// Every record in memory is one that these statements speak of.
+pub fn record_typed(stored: Record)
+    ensures { λ _. ⌜ RecordTyped stored ⌝ }
+{
+    let start = stored.started_utc_ms;
+    let summary = stored.summary;
+    let ftp = summary.ftp;
+    start_typed(start);
+    ftp_typed(ftp);
+}
