@@ -28,36 +28,17 @@ use Rattle.history.proofs.Bytes.{head-length, text-length, body-length,
 use Rattle.history.proofs.Laws.{by-check, long-name, record-read}
 use Rattle.history.proofs.Names.{text-taken}
 
--- each flag by itself
-finished-back : (a b c : Bool) → flagSet (flag a 1 + (flag b 2 + flag c 4)) 1 ≡ a
-finished-back true true true = refl
-finished-back true true false = refl
-finished-back true false true = refl
-finished-back true false false = refl
-finished-back false true true = refl
-finished-back false true false = refl
-finished-back false false true = refl
-finished-back false false false = refl
-
-dated-back : (a b c : Bool) → flagSet (flag a 1 + (flag b 2 + flag c 4)) 2 ≡ b
-dated-back true true true = refl
-dated-back true true false = refl
-dated-back true false true = refl
-dated-back true false false = refl
-dated-back false true true = refl
-dated-back false true false = refl
-dated-back false false true = refl
-dated-back false false false = refl
-
-measured-back : (a b c : Bool) → flagSet (flag a 1 + (flag b 2 + flag c 4)) 4 ≡ c
-measured-back true true true = refl
-measured-back true true false = refl
-measured-back true false true = refl
-measured-back true false false = refl
-measured-back false true true = refl
-measured-back false true false = refl
-measured-back false false true = refl
-measured-back false false false = refl
+-- each flag is read by itself
+flags-back : (a b c : Bool)
+    → let flags = flag a 1 + (flag b 2 + flag c 4) in (flagSet flags 1 ≡ a) × (flagSet flags 2 ≡ b) × (flagSet flags 4 ≡ c)
+flags-back true true true = (refl, refl, refl)
+flags-back true true false = (refl, refl, refl)
+flags-back true false true = (refl, refl, refl)
+flags-back true false false = (refl, refl, refl)
+flags-back false true true = (refl, refl, refl)
+flags-back false true false = (refl, refl, refl)
+flags-back false false true = (refl, refl, refl)
+flags-back false false false = (refl, refl, refl)
 
 start-back : (o : StartOption) → startAt (isDated o) (startMs o) ≡ o
 start-back start.None = refl
@@ -162,6 +143,7 @@ module _ (r : Record) (later : List ℕ) where
     unfolding summaryIn tallyBytes bytesOf flagsOf
     summary-read =
         let m = r .summary in
+        let flags = flags-back (m .finished) (isDated (r .«started_utc_ms»)) (isSome (m .ftp)) in
         simp (
           flags-are,
           number-at 7 4 (millis (m .«targeted_ms»)) refl (millis-lt (m .«targeted_ms»)),
@@ -172,8 +154,8 @@ module _ (r : Record) (later : List ℕ) where
           number-at 3 2 (m .steps) refl (omega (arith, typed .steps)),
           number-at 5 2 (m .skipped) refl (omega (arith, typed .skipped)),
           number-at 23 2 (orZero (m .ftp)) refl (omega (arith, typed .ftp)),
-          finished-back (m .finished) (isDated (r .«started_utc_ms»)) (isSome (m .ftp)),
-          measured-back (m .finished) (isDated (r .«started_utc_ms»)) (isSome (m .ftp)),
+          flags .0,
+          flags .2,
           ftp-back (m .ftp),
         )
 
@@ -204,7 +186,7 @@ module _ (r : Record) (later : List ℕ) where
           id-read,
           flags-are,
           start-read,
-          dated-back (r .summary .finished) (isDated (r .«started_utc_ms»)) (isSome (r .summary .ftp)),
+          flags-back (r .summary .finished) (isDated (r .«started_utc_ms»)) (isSome (r .summary .ftp)) .1,
           start-back (r .«started_utc_ms»),
           name-read h,
           summary-read,

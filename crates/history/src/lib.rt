@@ -69,6 +69,7 @@ pub struct RecordRead {
     pub record: Record,
 }
 
+// A length that a byte says.
 fn size_of(byte: u8) -> usize
     ensures { λ r. ⌜ (r ≡ byte) × (r ≤ 255) ⌝ }
 {
