@@ -1,13 +1,15 @@
-//! Writes crates/history/specs/Samples.antt: some rides (`inputs::records::samples`) with the bytes that the Rust writes for each.
+//! Writes crates/history/specs/Samples.antt: some rides (`inputs::records::samples`) with the bytes that the Rust writes for each, and
+//! some bytes with what it reads of them.
 extern crate vana;
 
-use inputs::records::{Ride, samples};
-use vana::workout::history::encode;
+use inputs::records::{read_samples, samples};
+use vana::workout::history::{decode, encode};
 use vana::workout::model::Test;
+use vana::workout::player::Summary;
 
 const HEAD: &str = "\
--- Some rides and the bytes that the Rust's `encode` writes for them: written by tests/oracle/record_samples.rs, compared by tests/oracle/run.
--- The definition of a record's bytes is held against these, since the Rust is outside the proof.
+-- Some rides with the bytes that the Rust's `encode` writes for them, and some bytes with what its `decode` reads: written by
+-- tests/oracle/record_samples.rs, compared by tests/oracle/run. The definitions are held against these, since the Rust is outside the proof.
 use mathlib.Core.Path.{_≡_}
 use mathlib.Core.Bool.{Bool, true, false}
 use mathlib.Core.List.{List, [], _∷_, _++_}
@@ -18,6 +20,7 @@ use Rattle.readings.specs.declared.ReadingOption.{ReadingOption}
 use Rattle.readings.specs.declared.ReadingOption.the-variants as ftp
 use Rattle.state.specs.declared.Summary.{Summary}
 use Rattle.history.specs.Record.{recordOf, recordBytes}
+use Rattle.history.specs.Decode.{noRecord, readAs, decodeOf}
 
 -- steps done, steps, skipped; targeted, in, under, over; finished; FTP
 abbrev pub summaryOf : ℕ → ℕ → ℕ → ℕ → ℕ → ℕ → ℕ → Bool → ReadingOption → Summary
@@ -34,7 +37,7 @@ summaryOf done steps skipped targeted inside under over finished measured =
       finished = finished;
     }
 
--- the record of each ride (name, test, summary, journal, id, start, dated), and its bytes
+-- a record is made of name, test, summary, journal, id, start, dated
 pub record Samples : Type 0 where";
 
 fn list(bytes: &[u8]) -> String {
@@ -47,17 +50,18 @@ fn rows(bytes: &[u8]) -> String {
     rows.join("\n      ++ (") + &")".repeat(rows.len() - 1)
 }
 
-fn ride(ride: &Ride) -> String {
-    let s = ride.summary;
-    let test = match ride.test {
+/// A record as `recordOf` makes it.
+fn made(name: &[u8], test: Option<Test>, s: &Summary, ride: (u8, u32, u64, bool)) -> String {
+    let test = match test {
         None => "tests.None",
         Some(Test::Twenty) => "tests.Twenty",
         Some(Test::Ramp) => "tests.Ramp",
     };
     let ftp = s.ftp.map_or("ftp.None".to_string(), |watts| format!("(ftp.Some {watts})"));
+    let (journal, id, start, dated) = ride;
     format!(
-        "recordOf (nameOf ({})) {test}\n      (summaryOf {} {} {} {} {} {} {} {} {ftp}) {} {} {} {}",
-        list(ride.name.as_bytes()),
+        "(recordOf (nameOf ({})) {test}\n      (summaryOf {} {} {} {} {} {} {} {} {ftp}) {journal} {id} {start} {dated})",
+        list(name),
         s.steps_done,
         s.steps,
         s.skipped,
@@ -65,17 +69,26 @@ fn ride(ride: &Ride) -> String {
         s.in_ms,
         s.under_ms,
         s.over_ms,
-        s.finished,
-        ride.journal,
-        ride.id,
-        ride.start,
-        ride.dated
+        s.finished
     )
+}
+
+fn read(bytes: &[u8]) -> String {
+    decode(bytes).map_or("noRecord".to_string(), |record| {
+        let start = record.started_utc_ms;
+        let ride = (record.journal, record.ride_id, start.unwrap_or(0), start.is_some());
+        format!("readAs\n      {}", made(record.name.as_bytes(), record.test, &record.summary, ride))
+    })
 }
 
 fn main() {
     println!("{HEAD}");
     for (i, sample) in samples().iter().enumerate() {
-        println!("  pub ride-{i} : recordBytes\n      ({})\n      ≡ {}", ride(sample), rows(&encode(&sample.record())));
+        let ride = (sample.journal, sample.id, sample.start, sample.dated);
+        let record = made(sample.name.as_bytes(), sample.test, &sample.summary, ride);
+        println!("  pub written-{i} : recordBytes\n      {record}\n      ≡ {}", rows(&encode(&sample.record())));
+    }
+    for (i, bytes) in read_samples().iter().enumerate() {
+        println!("  pub read-{i} : decodeOf\n      ({})\n      ≡ {}", rows(bytes), read(bytes));
     }
 }

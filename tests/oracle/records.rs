@@ -97,6 +97,35 @@ pub fn samples() -> Vec<Ride> {
     ]
 }
 
+/// Bytes that the definition of reading is held against: of a later version with a longer body and later bytes; with other flags, a
+/// start and an FTP that the flags don't say, and a name that is mended; then version 0, a body of 65 bytes, a wrong check word, a
+/// name of 21 bytes, test 3, a check word that isn't whole, and five bytes.
+pub fn read_samples() -> Vec<Vec<u8>> {
+    let whole = encode(&samples()[1].record()).to_vec();
+    let with = |values: &[(usize, u8)]| {
+        let mut bytes = whole.clone();
+        values.iter().for_each(|&(at, value)| bytes[at] = value);
+        mend(&mut bytes);
+        bytes
+    };
+    let mut later = longer(&with(&[(4, 3)]), 70, || 165);
+    later.extend([1, 2, 3]);
+    let other = with(&[(7, 0xF9), (21, b'o'), (23, 0), (24, 127), (25, b'z'), (26, b'{'), (27, 200), (28, b'`')]);
+    let mut unchecked = whole.clone();
+    unchecked[66] ^= 1;
+    vec![
+        later,
+        other,
+        with(&[(4, 0)]),
+        with(&[(5, 65)]),
+        unchecked,
+        with(&[(20, 21)]),
+        with(&[(41, 3)]),
+        whole[..69].to_vec(),
+        whole[..5].to_vec(),
+    ]
+}
+
 /// A body with its check word.
 fn checked(body: &[u8]) -> Vec<u8> {
     [body, &crc32(body).to_le_bytes()].concat()

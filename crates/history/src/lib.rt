@@ -215,7 +215,8 @@ pub fn record_size()
     ensures { λ _. ⌜ RecordSize ⌝ }
 {}
 
-// What the Rust writes for some rides is what the definition gives. It does nothing: its contract is the statement.
+// What the Rust writes for some rides, and reads of some bytes, is what the definitions give. It does nothing: its contract is
+// the statement.
 pub fn rust_samples()
     ensures { λ _. ⌜ Samples ⌝ }
 {}
