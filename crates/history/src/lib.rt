@@ -36,11 +36,13 @@ use refusal::Answer;
 use refusal::Refusal;
 use state::Summary;
 
-// The oldest version, and its body bytes before the check word.
+// The oldest version.
 const VERSION_1: u8 = 1;
 
+// Body bytes of version 1, before the check word.
 const BODY_V1: usize = 66;
 
+// The flags.
 const FINISHED: u8 = 1;
 
 const DATED: u8 = 2;
