@@ -1,0 +1,67 @@
+-- The third demand, whole.
+use mathlib.Core.Path.{_≡_, refl, sym, ap, ap₂, _∙_, subst}
+use mathlib.Core.Bool.{Bool, true}
+use mathlib.Core.List.{List, [], _∷_, _++_}
+use Prim.Native.Nat.{ℕ, zero, suc}
+use native.Mathlib.Omega.{arith}
+use lib.ListN.{take}
+use Rattle.refusal.specs.declared.Answer.{Answer}
+use Rattle.zones.specs.declared.TrainingProfile.{TrainingProfile}
+use Rattle.zones.specs.Zones.{profileOk}
+use Rattle.model.specs.declared.Workout.{Workout}
+use Rattle.state.specs.declared.Summary.{Summary}
+use Rattle.state.specs.declared.Player.{Player}
+use Rattle.standing.specs.Standing.{standingOf}
+use Rattle.start.specs.Start.{newOf}
+use Rattle.keeps.specs.Keeps.{KeepsStanding}
+use Rattle.keeps.proofs.Fresh.{keeps-standing}
+use Rattle.machine.specs.Machine.{Machine, summaryOf}
+use Rattle.machine.specs.Cutting.{Call, CutCall, cut, uncut, AllWellCut}
+use Rattle.machine.specs.Runs.{Run, run, Progress, begun, afterCalls, callsAsk}
+use Rattle.machine.specs.ThirdDemand.{Taken, Writer, compared, cutRun, uncutRun, AllAccepted, Claim, ThirdDemand}
+use Rattle.machine.specs.ThirdDemand as demand
+use Rattle.machine.proofs.Lists.{RunIs, After, list-is, new-after}
+use Rattle.machine.proofs.Lists as lists
+use Rattle.machine.proofs.Unrefused.{whole, whole-is, whole-well, list-unrefused}
+
+well-take : (n : ℕ) (l : List CutCall) → AllWellCut l → AllWellCut (take n l)
+well-take zero l h = tt
+well-take (suc n) [] h = tt
+well-take (suc n) (c ∷ l) h = (h .0, well-take n l (h .1))
+
+module _ (K : KeepsStanding) (w : Workout) (p : TrainingProfile) (T : Taken w) (ok : profileOk p ≡ true) where
+  -- the run of a cut list, and the machine's
+  pub after-list : (l : List CutCall) → AllWellCut l → RunIs K w p T ok [] (cutRun w p l) (callsAsk w p l begun) (afterCalls w p l begun)
+  after-list l h = list-is K w p T ok l h [] (newOf w .player) begun (new-after K w p T ok)
+
+  -- player and machine summaries are equal after every cut list
+  pub summary-is : (l : List CutCall) → AllWellCut l → cutRun w p l .player .core .summary ≡ summaryOf w (afterCalls w p l begun .machine)
+  summary-is l h = lists.summary-is K w p T ok _ (cutRun w p l .player) (afterCalls w p l begun) (after-list l h .after)
+
+  -- the player after every cut list stands
+  pub stands-after : (l : List CutCall) → AllWellCut l → standingOf (cutRun w p l .player) ≡ true
+  stands-after l h = after-list l h .after .stands
+
+  after-calls : (write : Writer) (l : List CutCall) → AllWellCut l → demand.After write w p l
+  after-calls write l h =
+      let A : RunIs K w p T ok [] (cutRun w p l) (callsAsk w p l begun) (afterCalls w p l begun) = after-list l h in
+      record {
+        bytes =
+            λ journal id began dated.
+            ap₂ (λ (v : Workout) (s : Summary). write (v .name) (v .test) s journal id began dated) (A .after .same .workout) (summary-is l h);
+        events = sym (A .after .same .alike .matches .events);
+        answers = A .answers;
+      }
+
+  unrefused : (l : List CutCall) → AllWellCut l → AllAccepted (uncutRun w p l .answers) → AllAccepted (cutRun w p l .answers)
+  unrefused l h a =
+      let uncut-answers : uncutRun w p l .answers ≡ callsAsk w p (whole l) begun =
+      ap (λ (cs : List Call). run p cs (newOf w .player) .answers) (sym (whole-is l)) ∙ after-list (whole l) (whole-well l h) .answers in
+      subst AllAccepted (sym (after-list l h .answers))
+      (list-unrefused w p l begun begun h refl (record { ms = omega arith; mm = omega arith }) (subst AllAccepted uncut-answers a))
+
+  claim-is : (write : Writer) (l : List CutCall) → AllWellCut l → Claim write w p l
+  claim-is write l h = record { after = λ n. after-calls write (take n l) (well-take n l h); unrefused = unrefused l h }
+
+pub third-demand : ThirdDemand
+third-demand write w p T ok l h = claim-is keeps-standing w p T ok write l h

@@ -1,0 +1,13 @@
+pub mod Seconds
+pub mod Reversed
+pub mod Average
+pub mod AtOnce
+pub mod Pieces
+pub mod Refused
+pub mod Alike
+pub mod Loop
+pub mod Scope
+pub mod Calls
+pub mod Lists
+pub mod Unrefused
+pub mod Demand

@@ -1,0 +1,4 @@
+pub mod Machine
+pub mod Cutting
+pub mod Runs
+pub mod ThirdDemand

@@ -1,0 +1,350 @@
+-- Document 01, 'The millisecond machine': its state, and what a read, an extend, a skip and a millisecond make of it. With the
+-- player it shares the band, the compliance and the three-reading average; nothing else of it is made from the player's definitions.
+-- The machine's words are the paper's: a step that ends by a skip is marked, and the rest is what is left over from whole seconds.
+use mathlib.Core.Bool.{Bool, true, false, cond, _&&_}
+use mathlib.Core.Option.{Option, none, some}
+use mathlib.Core.List.{List, [], _∷_, _++_, map}
+use Prim.Native.Nat.{ℕ, zero, suc, _+_, _*_, _/_, max}
+use lib.Dec.{ltb, leb, eqb}
+use lib.ListN.{length, take}
+use Rattle.common.specs.Lists.{sum}
+use Rattle.zones.specs.declared.TrainingProfile.{TrainingProfile}
+use Rattle.model.specs.declared.Intensity.{Intensity}
+use Rattle.model.specs.declared.Intensity.the-variants.{Warmup, Work, Recovery, Cooldown}
+use Rattle.model.specs.declared.Intensity.the-variants as intensities
+use Rattle.model.specs.declared.Length.{Length}
+use Rattle.model.specs.declared.Length.the-variants.{Time, Distance, Open}
+use Rattle.model.specs.declared.Metric.{Metric}
+use Rattle.model.specs.declared.Metric.the-variants as metrics
+use Rattle.model.specs.declared.BandOption.{BandOption}
+use Rattle.model.specs.declared.BandOption.the-variants as bands
+use Rattle.model.specs.declared.Target.{Target}
+use Rattle.model.specs.declared.Test.{Test}
+use Rattle.model.specs.declared.Test.the-variants.{Twenty}
+use Rattle.model.specs.declared.Test.the-variants as tests
+use Rattle.model.specs.declared.Step.{Step}
+use Rattle.model.specs.declared.Workout.{Workout}
+use Rattle.model.specs.Target.{bandOf}
+use Rattle.order.specs.declared.PlayedOption.{PlayedOption}
+use Rattle.order.specs.Order.{playedOf, playedLen}
+use Rattle.readings.specs.declared.ReadingOption.{ReadingOption}
+use Rattle.readings.specs.declared.ReadingOption.the-variants.{None, Some}
+use Rattle.readings.specs.declared.Sample.{Sample}
+use Rattle.readings.specs.declared.Compliance.the-variants.{Under, In, Over}
+use Rattle.readings.specs.declared.ComplianceOption.{ComplianceOption}
+use Rattle.readings.specs.declared.ComplianceOption.the-variants.{NoBand, NoReading}
+use Rattle.readings.specs.declared.ComplianceOption.the-variants as how
+use Rattle.readings.specs.Readings.{orZero, noSample, average, perMinute, judged}
+use Rattle.events.specs.Events.{Event, started, finished, ftp}
+use Rattle.state.specs.declared.Summary.{Summary}
+
+-- State.
+
+-- "tallies"
+pub record Tallies : Type 0 where
+  pub targeted : ℕ
+  pub inside : ℕ
+  pub under : ℕ
+  pub over : ℕ
+
+-- "test sums, a list of seconds' watts with a rest". The newest second stands first; `seconds_either_way` says that the result is the
+-- same with the newest last.
+pub record Sums : Type 0 where
+  pub sum : ℕ
+  pub time : ℕ
+  pub rest : ℕ
+  pub seconds : List ℕ
+
+-- "State: position, time and extra in the step, last three readings, tallies, test sums, a list of seconds' watts with a rest, FTP."
+-- The position is the number of steps done. The newest reading stands first. Events are those given so far.
+pub record Machine : Type 0 where
+  pub position : ℕ
+  pub time : ℕ
+  pub extra : ℕ
+  pub skipped : ℕ
+  pub readings : List Sample
+  pub tallies : Tallies
+  pub sums : Sums
+  pub ftp : ReadingOption
+  pub events : List Event
+
+-- "It starts at position 0, all else 0, empty or absent."
+abbrev pub noTallies : Tallies
+noTallies = record { targeted = 0; inside = 0; under = 0; over = 0 }
+
+abbrev pub noSums : Sums
+noSums = record { sum = 0; time = 0; rest = 0; seconds = [] }
+
+unfoldable pub start : Machine
+start =
+    record {
+      position = 0;
+      time = 0;
+      extra = 0;
+      skipped = 0;
+      readings = [];
+      tallies = noTallies;
+      sums = noSums;
+      ftp = None;
+      events = [];
+    }
+
+-- The step at a position. Where there is none all steps are done, and the machine has finished.
+abbrev pub stepOf : PlayedOption → Option Step
+stepOf played = cond (played .found) (some (played .played .step)) none
+
+unfoldable pub stepAt : Workout → ℕ → Option Step
+stepAt w position = stepOf (playedOf w position)
+
+abbrev pub isNone : Option Step → Bool
+isNone none = true
+isNone (some s) = false
+
+unfoldable pub isFinished : Workout → Machine → Bool
+isFinished w m = isNone (stepAt w (m .position))
+
+-- Read.
+
+-- "Read: the newest three stay."
+unfoldable pub reading : Sample → Machine → Machine
+reading sample m =
+    record {
+      position = m .position;
+      time = m .time;
+      extra = m .extra;
+      skipped = m .skipped;
+      readings = take 3 (sample ∷ m .readings);
+      tallies = m .tallies;
+      sums = m .sums;
+      ftp = m .ftp;
+      events = m .events;
+    }
+
+abbrev pub newest : List Sample → Sample
+newest [] = noSample
+newest (sample ∷ samples) = sample
+
+abbrev pub powerOf : Sample → ReadingOption
+powerOf sample = sample .«power_watts»
+
+-- Extend.
+
+-- "60 s more in an unfinished timed step": the extra after it, if it is one.
+abbrev pub extraIn : Length → ℕ → ℕ → Option ℕ
+extraIn (Time time) secs extra = some (extra + secs)
+extraIn (Distance metres) secs extra = none
+extraIn Open secs extra = none
+
+abbrev pub extraAfter : Option Step → ℕ → ℕ → Option ℕ
+extraAfter none secs extra = none
+extraAfter (some s) secs extra = extraIn (s .length) secs extra
+
+unfoldable pub withExtra : Option ℕ → Machine → Machine
+withExtra none m = m
+withExtra (some extra) m =
+    record {
+      position = m .position;
+      time = m .time;
+      extra = extra;
+      skipped = m .skipped;
+      readings = m .readings;
+      tallies = m .tallies;
+      sums = m .sums;
+      ftp = m .ftp;
+      events = m .events;
+    }
+
+-- The test's result.
+
+-- "in a `Test` step"
+abbrev pub isTest : Intensity → Bool
+isTest Warmup = false
+isTest Work = false
+isTest Recovery = false
+isTest Cooldown = false
+isTest intensities.Test = true
+
+-- The workout's test in such a step, none elsewhere.
+abbrev pub testIn : Workout → Step → Test
+testIn w s = cond (isTest (s .intensity)) (w .test) tests.None
+
+-- "1,000 × (seconds + extra)"
+abbrev pub endOf : ℕ → ℕ → ℕ
+endOf secs extra = 1000 * (secs + extra)
+
+-- "Only 50 to 600 is kept."
+abbrev pub kept : ℕ → ReadingOption
+kept watts = cond (leb 50 watts && leb watts 600) (Some watts) None
+
+-- "mean (sum + time / 2) / time, then (mean × 95 + 50) / 100"
+abbrev pub twentyWatts : Sums → ℕ
+twentyWatts u = ((u .sum + u .time / 2) / u .time * 95 + 50) / 100
+
+-- "`Twenty`: unless marked or test time is below that step's 1,000 × (seconds + extra)". A step without seconds gives none.
+unfoldable pub twenty : Length → ℕ → Sums → ReadingOption
+twenty (Time secs) extra u = cond (ltb (u .time) (endOf secs extra)) None (kept (twentyWatts u))
+twenty (Distance metres) extra u = None
+twenty Open extra u = None
+
+-- "(sum + 30) / 60 of 60 neighbouring seconds", for any number of them
+unfoldable pub mean : ℕ → List ℕ → ℕ
+mean n watts = (sum watts + n / 2) / n
+
+abbrev pub greater : ReadingOption → ℕ → ℕ
+greater None watts = watts
+greater (Some best) watts = max best watts
+
+-- "the greatest": of the newest n seconds and of those before the newest one, while there are n.
+unfoldable pub greatest : ℕ → List ℕ → ReadingOption
+greatest n [] = None
+greatest n (w ∷ ws) = cond (leb n (suc (length ws))) (Some (greater (greatest n ws) (mean n (take n (w ∷ ws))))) None
+
+-- "× 75, + 50, / 100"
+abbrev pub rampOf : ReadingOption → ReadingOption
+rampOf None = None
+rampOf (Some best) = kept ((best * 75 + 50) / 100)
+
+-- "`Ramp`: the greatest (sum + 30) / 60 of 60 neighbouring seconds, × 75, + 50, / 100."
+unfoldable pub ramp : Sums → ReadingOption
+ramp u = rampOf (greatest 60 (u .seconds))
+
+unfoldable pub result : Test → Length → ℕ → Bool → Sums → ReadingOption
+result tests.None length extra marked u = None
+result Twenty length extra marked u = cond marked None (twenty length extra u)
+result tests.Ramp length extra marked u = ramp u
+
+-- "in a `Test` step the result, if any"
+abbrev pub resultIn : Workout → Step → Bool → Machine → ReadingOption
+resultIn w s marked m = result (testIn w s) (s .length) (m .extra) marked (m .sums)
+
+-- Ending.
+
+-- "is kept"
+abbrev pub ftpAfter : ReadingOption → ReadingOption → ReadingOption
+ftpAfter None before = before
+ftpAfter (Some watts) before = Some watts
+
+-- "with an FTP event"
+abbrev pub ftpEvents : ReadingOption → List Event
+ftpEvents None = []
+ftpEvents (Some watts) = ftp watts ∷ []
+
+-- "started with the new position, or finished"
+abbrev pub nextEvent : Option Step → ℕ → Event
+nextEvent none position = finished
+nextEvent (some s) position = started position
+
+-- "`ramp_low_ms`, test sums and the minute ring run on across steps", whichever step comes next.
+abbrev pub sumsAt : Option Step → Sums → Sums
+sumsAt next u = u
+
+-- "Ending: in a `Test` step the result, if any, is kept with an FTP event; done + 1, skipped + 1 if marked; time and extra 0;
+-- started with the new position, or finished."
+unfoldable pub ended : Workout → Step → Bool → Machine → Machine
+ended w s marked m =
+    record {
+      position = m .position + 1;
+      time = 0;
+      extra = 0;
+      skipped = m .skipped + cond marked 1 0;
+      readings = m .readings;
+      tallies = m .tallies;
+      sums = sumsAt (stepAt w (m .position + 1)) (m .sums);
+      ftp = ftpAfter (resultIn w s marked m) (m .ftp);
+      events = m .events ++ (ftpEvents (resultIn w s marked m) ++ (nextEvent (stepAt w (m .position + 1)) (m .position + 1) ∷ []));
+    }
+
+-- "Skip: unless finished, end the step, marked."
+unfoldable pub skipped : Workout → Option Step → Machine → Machine
+skipped w none m = m
+skipped w (some s) m = ended w s true m
+
+-- A millisecond.
+
+-- "its reading present (for power the three-reading average, else the newest reading's)"
+unfoldable pub readingFor : Metric → List Sample → ReadingOption
+readingFor metrics.Power samples = average (map powerOf samples)
+readingFor metrics.Heart samples = newest samples .«heart_bpm»
+readingFor metrics.Cadence samples = perMinute (newest samples .«cadence_tenths»)
+
+abbrev pub complianceBy : Target → BandOption → TrainingProfile → List Sample → ComplianceOption
+complianceBy target bands.None p samples = NoBand
+complianceBy target (bands.Some band) p samples = judged target band p (readingFor (band .metric) samples)
+
+abbrev pub complianceIn : TrainingProfile → Step → Machine → ComplianceOption
+complianceIn p s m = complianceBy (s .target) (bandOf (s .target) p (m .time / 1000)) p (m .readings)
+
+-- "one to targeted and one to in, under or over"
+unfoldable pub tally : ComplianceOption → Tallies → Tallies
+tally NoBand t = t
+tally NoReading t = t
+tally (how.Some Under) t = record { targeted = t .targeted + 1; inside = t .inside; under = t .under + 1; over = t .over }
+tally (how.Some In) t = record { targeted = t .targeted + 1; inside = t .inside + 1; under = t .under; over = t .over }
+tally (how.Some Over) t = record { targeted = t .targeted + 1; inside = t .inside; under = t .under; over = t .over + 1 }
+
+-- "the last power (absent 0)"
+abbrev pub lastPower : List Sample → ℕ
+lastPower samples = orZero (powerOf (newest samples))
+
+-- "adds 1 to the rest and at 1,000 clears it and appends that power"
+unfoldable pub rested : Bool → ℕ → Sums → Sums
+rested true power u = record { sum = u .sum; time = u .time; rest = 0; seconds = power ∷ u .seconds }
+rested false power u = record { sum = u .sum; time = u .time; rest = u .rest + 1; seconds = u .seconds }
+
+-- "in a `Test` step, `Twenty` adds the last power (absent 0) to the sum and 1 to its time, `Ramp` adds 1 to the rest and at 1,000
+-- clears it and appends that power"
+unfoldable pub summed : Test → ℕ → Sums → Sums
+summed tests.None power u = u
+summed Twenty power u = record { sum = u .sum + power; time = u .time + 1; rest = u .rest; seconds = u .seconds }
+summed tests.Ramp power u = rested (eqb (u .rest + 1) 1000) power u
+
+-- The millisecond but for the step's end.
+unfoldable pub ridden : Workout → TrainingProfile → Step → Machine → Machine
+ridden w p s m =
+    record {
+      position = m .position;
+      time = m .time + 1;
+      extra = m .extra;
+      skipped = m .skipped;
+      readings = m .readings;
+      tallies = tally (complianceIn p s m) (m .tallies);
+      sums = summed (testIn w s) (lastPower (m .readings)) (m .sums);
+      ftp = m .ftp;
+      events = m .events;
+    }
+
+-- "a timed step whose time is 1,000 × (seconds + extra) ends"
+unfoldable pub isOver : Length → ℕ → ℕ → Bool
+isOver (Time secs) extra time = eqb time (endOf secs extra)
+isOver (Distance metres) extra time = false
+isOver Open extra time = false
+
+unfoldable pub closed : Workout → Step → Machine → Machine
+closed w s m = cond (isOver (s .length) (m .extra) (m .time)) (ended w s false m) m
+
+-- "Each millisecond, unless finished"
+unfoldable pub millisecondIn : Workout → TrainingProfile → Option Step → Machine → Machine
+millisecondIn w p none m = m
+millisecondIn w p (some s) m = closed w s (ridden w p s m)
+
+unfoldable pub millisecond : Workout → TrainingProfile → Machine → Machine
+millisecond w p m = millisecondIn w p (stepAt w (m .position)) m
+
+unfoldable pub milliseconds : Workout → TrainingProfile → ℕ → Machine → Machine
+milliseconds w p zero m = m
+milliseconds w p (suc n) m = milliseconds w p n (millisecond w p m)
+
+-- "Its record is the writer's, of these fields, the workout's name, test and played length": the summary that it is written from.
+unfoldable pub summaryOf : Workout → Machine → Summary
+summaryOf w m =
+    record {
+      «targeted_ms» = m .tallies .targeted;
+      «in_ms» = m .tallies .inside;
+      «under_ms» = m .tallies .under;
+      «over_ms» = m .tallies .over;
+      ftp = m .ftp;
+      «steps_done» = m .position;
+      steps = playedLen w;
+      skipped = m .skipped;
+      finished = isFinished w m;
+    }

@@ -1,0 +1,131 @@
+-- The third demand: one claim about a whole list of calls and its cutting.
+use mathlib.Core.Path.{_≡_}
+use mathlib.Core.Bool.{Bool, true, false, cond, _&&_, not}
+use mathlib.Core.List.{List, [], _∷_, reverse}
+use Prim.Native.Nat.{ℕ, _<_}
+use lib.Dec.{leb}
+use lib.ListN.{length, take}
+use Rattle.common.specs.Lists.{all}
+use Rattle.refusal.specs.declared.Answer.{Answer}
+use Rattle.refusal.specs.declared.Answer.the-variants.{Accepted, Refused}
+use Rattle.refusal.specs.declared.Refusal.{Refusal}
+use Rattle.names.specs.declared.Name.{Name}
+use Rattle.zones.specs.declared.TrainingProfile.{TrainingProfile}
+use Rattle.zones.specs.Zones.{profileOk}
+use Rattle.model.specs.declared.Length.{Length}
+use Rattle.model.specs.declared.Length.the-variants.{Time, Distance, Open}
+use Rattle.model.specs.declared.Target.{Target}
+use Rattle.model.specs.declared.Target.the-variants.{Free, Ftp, Watts, HeartZone, Lthr, Cadence, Ramp, FtpRamp}
+use Rattle.model.specs.declared.Test.{Test}
+use Rattle.model.specs.declared.Step.{Step}
+use Rattle.model.specs.declared.Workout.{Workout}
+use Rattle.model.specs.Workout.{stepsOf}
+use Rattle.validation.specs.Sound.{workoutAnswer}
+use Rattle.events.specs.Events.{Event}
+use Rattle.state.specs.declared.Summary.{Summary}
+use Rattle.state.specs.declared.Player.{Player}
+use Rattle.start.specs.Start.{newOf}
+use Rattle.machine.specs.Machine.{Machine, greatest, milliseconds, summaryOf}
+use Rattle.machine.specs.Cutting.{Call, CutCall, Piece, uncut, cut, sumMs, AllWellCut}
+use Rattle.machine.specs.Runs.{called, Run, run, Progress, begun, afterPieces, afterCalls, piecesAsk, callsAsk, lasts}
+
+-- "A distance step has length kind 1"
+abbrev pub isDistance : Length → Bool
+isDistance (Time secs) = false
+isDistance (Distance metres) = true
+isDistance Open = false
+
+-- "a ramp target is kind 6 or 7"
+abbrev pub isRamp : Target → Bool
+isRamp Free = false
+isRamp (Ftp low high) = false
+isRamp (Watts low high) = false
+isRamp (HeartZone zone) = false
+isRamp (Lthr low high) = false
+isRamp (Cadence low high) = false
+isRamp (Ramp start step every) = true
+isRamp (FtpRamp start step every) = true
+
+abbrev pub isPlain : Step → Bool
+isPlain s = not (isDistance (s .length)) && not (isRamp (s .target))
+
+-- "every workout without distance steps and ramp targets .. that pass document 01's questions". In memory a workout has twelve
+-- places for steps.
+pub record Taken (w : Workout) : Type 0 where
+  pub passes : workoutAnswer w ≡ Accepted
+  pub plain : all isPlain (stepsOf w) ≡ true
+  pub twelve : length (w .steps) ≡ 12
+
+-- The record writer's bytes, of a workout's name and test, a summary, and journal, id, start and whether it is dated.
+abbrev pub Writer : Type 0
+Writer = Name → Test → Summary → ℕ → ℕ → ℕ → Bool → List ℕ
+
+-- "The stored record is what the record writer gives for the player"
+abbrev pub playerRecord : Writer → Player → ℕ → ℕ → ℕ → Bool → List ℕ
+playerRecord write player journal id began dated =
+    write (player .workout .name) (player .workout .test) (player .core .summary) journal id began dated
+
+-- "Its record is the writer's, of these fields, the workout's name, test and played length, and the journal, id and start handed in."
+abbrev pub machineRecord : Writer → Workout → Machine → ℕ → ℕ → ℕ → Bool → List ℕ
+machineRecord write w m journal id began dated = write (w .name) (w .test) (summaryOf w m) journal id began dated
+
+-- "those of kinds 1 to 3"
+abbrev pub isCompared : Event → Bool
+isCompared e = leb 1 (e .kind) && leb (e .kind) 3
+
+unfoldable pub compared : List Event → List Event
+compared [] = []
+compared (e ∷ es) = cond (isCompared e) (e ∷ compared es) (compared es)
+
+-- "The list starts from the player that `new` gives for the workout", and runs cut.
+abbrev pub cutRun : Workout → TrainingProfile → List CutCall → Run
+cutRun w p l = run p (cut l) (newOf w .player)
+
+abbrev pub uncutRun : Workout → TrainingProfile → List CutCall → Run
+uncutRun w p l = run p (uncut l) (newOf w .player)
+
+-- After all calls of a list.
+pub record After (write : Writer) (w : Workout) (p : TrainingProfile) (l : List CutCall) : Type 0 where
+  -- "the stored record is byte for byte that of document 01's millisecond machine, fed the uncut list", "with whatever journal, id
+  -- and start"
+  pub bytes : (journal id began : ℕ) (dated : Bool)
+      → playerRecord write (cutRun w p l .player) journal id began dated ≡ machineRecord write w (afterCalls w p l begun .machine) journal id began dated
+  -- "The started, finished and FTP events given so far are exactly that machine's, in order."
+  pub events : compared (cutRun w p l .events) ≡ afterCalls w p l begun .machine .events
+  -- What is refused as the cut list runs is what the machine's own questions refuse, call by call.
+  pub answers : cutRun w p l .answers ≡ callsAsk w p l begun
+
+-- Nothing is refused.
+abbrev pub AllAccepted : List Answer → Type 0
+AllAccepted [] = Unit
+AllAccepted (answer ∷ answers) = (answer ≡ Accepted) × AllAccepted answers
+
+pub record Claim (write : Writer) (w : Workout) (p : TrainingProfile) (l : List CutCall) : Type 0 where
+  -- "at the start, and after each call of the uncut list"
+  pub after : (n : ℕ) → After write w p (take n l)
+  -- "Where the uncut list, played as it stands, has nothing refused, the cut one hasn't either."
+  pub unrefused : AllAccepted (uncutRun w p l .answers) → AllAccepted (cutRun w p l .answers)
+
+abbrev pub ThirdDemand : Type 0
+ThirdDemand =
+    (write : Writer) (w : Workout) (p : TrainingProfile) → Taken w → profileOk p ≡ true → (l : List CutCall) → AllWellCut l → Claim write w p l
+
+-- Laws beside it.
+
+-- "the pieces count only for what is refused", "a ride lasts the milliseconds of its pieces that aren't refused": riding the pieces
+-- one by one is riding that sum at once, and it is the whole ride where none is refused.
+pub record PiecesAtOnce : Type 0 where
+  pub at-once : (w : Workout) (p : TrainingProfile) (kinds values : ℕ) (qs : List Piece) (s : Progress)
+      → afterPieces w p kinds values qs s .machine ≡ milliseconds w p (lasts w p kinds values qs s) (s .machine)
+  pub unrefused : (w : Workout) (p : TrainingProfile) (kinds values : ℕ) (qs : List Piece) (s : Progress)
+      → AllAccepted (piecesAsk w p kinds values qs s) → lasts w p kinds values qs s ≡ sumMs qs
+
+-- "What is refused as the cut list runs counts for nothing in player": a refused call leaves the player and gives no events.
+abbrev pub RefusedStays : Type 0
+RefusedStays =
+    (p : TrainingProfile) (c : Call) (player : Player) (refusal : Refusal) → called p c player .answer ≡ Refused refusal
+    → (called p c player .player ≡ player) × (called p c player .events ≡ [])
+
+-- The greatest mean of neighbouring seconds is the same with the newest second first or last.
+abbrev pub SecondsEitherWay : Type 0
+SecondsEitherWay = (n : ℕ) (seconds : List ℕ) → 0 < n → greatest n (reverse seconds) ≡ greatest n seconds
