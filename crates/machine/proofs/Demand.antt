@@ -13,8 +13,6 @@ use Rattle.state.specs.declared.Summary.{Summary}
 use Rattle.state.specs.declared.Player.{Player}
 use Rattle.standing.specs.Standing.{standingOf}
 use Rattle.start.specs.Start.{newOf}
-use Rattle.keeps.specs.Keeps.{KeepsStanding}
-use Rattle.keeps.proofs.Fresh.{keeps-standing}
 use Rattle.machine.specs.Machine.{Machine, summaryOf}
 use Rattle.machine.specs.Cutting.{Call, CutCall, cut, uncut, AllWellCut}
 use Rattle.machine.specs.Runs.{Run, run, Progress, begun, afterCalls, callsAsk}
@@ -29,14 +27,14 @@ well-take zero l h = tt
 well-take (suc n) [] h = tt
 well-take (suc n) (c ∷ l) h = (h .0, well-take n l (h .1))
 
-module _ (K : KeepsStanding) (w : Workout) (p : TrainingProfile) (T : Taken w) (ok : profileOk p ≡ true) where
+module _ (w : Workout) (p : TrainingProfile) (T : Taken w) (ok : profileOk p ≡ true) where
   -- the run of a cut list, and the machine's
-  pub after-list : (l : List CutCall) → AllWellCut l → RunIs K w p T ok [] (cutRun w p l) (callsAsk w p l begun) (afterCalls w p l begun)
-  after-list l h = list-is K w p T ok l h [] (newOf w .player) begun (new-after K w p T ok)
+  pub after-list : (l : List CutCall) → AllWellCut l → RunIs w p T ok [] (cutRun w p l) (callsAsk w p l begun) (afterCalls w p l begun)
+  after-list l h = list-is w p T ok l h [] (newOf w .player) begun (new-after w p T ok)
 
   -- player and machine summaries are equal after every cut list
   pub summary-is : (l : List CutCall) → AllWellCut l → cutRun w p l .player .core .summary ≡ summaryOf w (afterCalls w p l begun .machine)
-  summary-is l h = lists.summary-is K w p T ok _ (cutRun w p l .player) (afterCalls w p l begun) (after-list l h .after)
+  summary-is l h = lists.summary-is w p T ok _ (cutRun w p l .player) (afterCalls w p l begun) (after-list l h .after)
 
   -- the player after every cut list stands
   pub stands-after : (l : List CutCall) → AllWellCut l → standingOf (cutRun w p l .player) ≡ true
@@ -44,7 +42,7 @@ module _ (K : KeepsStanding) (w : Workout) (p : TrainingProfile) (T : Taken w) (
 
   after-calls : (write : Writer) (l : List CutCall) → AllWellCut l → demand.After write w p l
   after-calls write l h =
-      let A : RunIs K w p T ok [] (cutRun w p l) (callsAsk w p l begun) (afterCalls w p l begun) = after-list l h in
+      let A : RunIs w p T ok [] (cutRun w p l) (callsAsk w p l begun) (afterCalls w p l begun) = after-list l h in
       record {
         bytes =
             λ journal id began dated.
@@ -64,4 +62,4 @@ module _ (K : KeepsStanding) (w : Workout) (p : TrainingProfile) (T : Taken w) (
   claim-is write l h = record { after = λ n. after-calls write (take n l) (well-take n l h); unrefused = unrefused l h }
 
 pub third-demand : ThirdDemand
-third-demand write w p T ok l h = claim-is keeps-standing w p T ok write l h
+third-demand write w p T ok l h = claim-is w p T ok write l h

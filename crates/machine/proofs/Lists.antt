@@ -22,7 +22,8 @@ use Rattle.state.specs.declared.Player.{Player}
 use Rattle.standing.specs.Standing.{standingOf}
 use Rattle.start.specs.Start.{fresh, newBy, newOf}
 use Rattle.updates.specs.Updates.{Called}
-use Rattle.keeps.specs.Keeps.{PowerFits, PlayerFits, KeepsStanding}
+use Rattle.keeps.specs.Keeps.{PowerFits, PlayerFits}
+use Rattle.keeps.proofs.Fresh.{keeps-standing}
 use Rattle.machine.specs.Machine.{Machine, start, stepAt, isNone, isFinished, greatest, newest, lastPower, reading, withExtra, skipped, ended, ridden, closed, millisecondIn, millisecond, milliseconds, extraAfter, isOver, summaryOf}
 use Rattle.machine.specs.Cutting.{Call, read, ride, skip, extend, Piece, CutCall, pieceCall, callsOf, cut, WellCut, AllWellCut}
 use Rattle.machine.specs.Runs.{called, Run, run, Totals, Progress, begun, readAsks, pieceAsks, skipAsks, extendAsks, extraNext, unlessRefused, afterPiece, afterPieces, afterCall, afterCalls, piecesAsk, callAsks, callsAsk}
@@ -113,7 +114,7 @@ module _ (p : TrainingProfile) where
 
 -- The run.
 
-module _ (K : KeepsStanding) (w : Workout) (p : TrainingProfile) (T : Taken w) (ok : profileOk p ≡ true) where
+module _ (w : Workout) (p : TrainingProfile) (T : Taken w) (ok : profileOk p ≡ true) where
   -- Player and machine after some calls, with the events so far.
   pub record After (k : List Event) (q : Player) (s : Progress) : Type 0 where
     pub same : Same w (s .totals) k q (s .machine)
@@ -136,10 +137,10 @@ module _ (K : KeepsStanding) (w : Workout) (p : TrainingProfile) (T : Taken w) (
 
   keeps : (c : Call) (q : Player) → PlayerFits q → standingOf q ≡ true → standingOf (called p c q .player) ≡ true
   unfolding called
-  keeps (read sample) q f st = K .read q sample st
-  keeps (ride ms mm kinds values) q f st = K .ride q ms mm p kinds values f st
-  keeps (skip kinds values) q f st = K .skip q kinds values f st
-  keeps extend q f st = K .extend q st
+  keeps (read sample) q f st = keeps-standing .read q sample st
+  keeps (ride ms mm kinds values) q f st = keeps-standing .ride q ms mm p kinds values f st
+  keeps (skip kinds values) q f st = keeps-standing .skip q kinds values f st
+  keeps extend q f st = keeps-standing .extend q st
 
   none-yet : (k : List Event) (q : Player) (s : Progress) → After k q s → After (k ++ compared []) q s
   unfolding compared
@@ -271,7 +272,7 @@ module _ (K : KeepsStanding) (w : Workout) (p : TrainingProfile) (T : Taken w) (
 
   fresh-after : After [] (fresh w) begun
   unfolding begun start
-  fresh-after = record { same = fresh-same; stands = K .new w (T .twelve) (T .passes); fits = omega arith }
+  fresh-after = record { same = fresh-same; stands = keeps-standing .new w (T .twelve) (T .passes); fits = omega arith }
 
   pub new-after : After [] (newOf w .player) begun
   new-after = subst (λ (q : Player). After [] q begun) (sym new-is) fresh-after

@@ -1,5 +1,8 @@
 // Document 01, 'The millisecond machine', and the third demand. The crate has statements; its functions compute nothing.
+ghost use Prim.Native.Nat.{_<_};
+ghost use Rattle.readings.specs.Readings.{orZero};
 ghost use Rattle.machine.specs.ThirdDemand.{ThirdDemand, PiecesAtOnce, RefusedStays, SecondsEitherWay};
+use readings::ReadingOption;
 
 // The third demand: after each call of a list, cut as one likes, the record and the events are the millisecond machine's.
 pub fn third_demand()
@@ -20,3 +23,13 @@ pub fn refused_stays()
 pub fn seconds_either_way()
     ensures { λ _. ⌜ SecondsEitherWay ⌝ }
 {}
+
+// Every reading in memory has the 16 bits that the third demand supposes of it. (`codec::workout_fits` has a workout's twelve places.)
+pub fn reading_fits(reading: ReadingOption)
+    ensures { λ _. ⌜ orZero reading < 65536 ⌝ }
+{
+    match reading {
+        ReadingOption::None => {}
+        ReadingOption::Some(_watts) => {}
+    }
+}
