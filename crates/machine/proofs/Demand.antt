@@ -13,10 +13,11 @@ use Rattle.state.specs.declared.Summary.{Summary}
 use Rattle.state.specs.declared.Player.{Player}
 use Rattle.standing.specs.Standing.{standingOf}
 use Rattle.start.specs.Start.{newOf}
+use Rattle.history.specs.Record.{recordOf, recordBytes}
 use Rattle.machine.specs.Machine.{Machine, summaryOf}
 use Rattle.machine.specs.Cutting.{Call, CutCall, cut, uncut, AllWellCut}
 use Rattle.machine.specs.Runs.{Run, run, Progress, begun, afterCalls, callsAsk}
-use Rattle.machine.specs.ThirdDemand.{Taken, Writer, compared, cutRun, uncutRun, AllAccepted, Claim, ThirdDemand}
+use Rattle.machine.specs.ThirdDemand.{Taken, compared, cutRun, uncutRun, AllAccepted, Claim, ThirdDemand}
 use Rattle.machine.specs.ThirdDemand as demand
 use Rattle.machine.proofs.Lists.{RunIs, After, list-is, new-after}
 use Rattle.machine.proofs.Lists as lists
@@ -40,13 +41,13 @@ module _ (w : Workout) (p : TrainingProfile) (T : Taken w) (ok : profileOk p ≡
   pub stands-after : (l : List CutCall) → AllWellCut l → standingOf (cutRun w p l .player) ≡ true
   stands-after l h = after-list l h .after .stands
 
-  after-calls : (write : Writer) (l : List CutCall) → AllWellCut l → demand.After write w p l
-  after-calls write l h =
+  after-calls : (l : List CutCall) → AllWellCut l → demand.After w p l
+  after-calls l h =
       let A : RunIs w p T ok [] (cutRun w p l) (callsAsk w p l begun) (afterCalls w p l begun) = after-list l h in
       record {
         bytes =
             λ journal id began dated.
-            ap₂ (λ (v : Workout) (s : Summary). write (v .name) (v .test) s journal id began dated) (A .after .same .workout) (summary-is l h);
+            ap₂ (λ (v : Workout) (s : Summary). recordBytes (recordOf (v .name) (v .test) s journal id began dated)) (A .after .same .workout) (summary-is l h);
         events = sym (A .after .same .alike .matches .events);
         answers = A .answers;
       }
@@ -58,8 +59,8 @@ module _ (w : Workout) (p : TrainingProfile) (T : Taken w) (ok : profileOk p ≡
       subst AllAccepted (sym (after-list l h .answers))
       (list-unrefused w p l begun begun h refl (record { ms = omega arith; mm = omega arith }) (subst AllAccepted uncut-answers a))
 
-  claim-is : (write : Writer) (l : List CutCall) → AllWellCut l → Claim write w p l
-  claim-is write l h = record { after = λ n. after-calls write (take n l) (well-take n l h); unrefused = unrefused l h }
+  claim-is : (l : List CutCall) → AllWellCut l → Claim w p l
+  claim-is l h = record { after = λ n. after-calls (take n l) (well-take n l h); unrefused = unrefused l h }
 
 pub third-demand : ThirdDemand
-third-demand write w p T ok l h = claim-is w p T ok write l h
+third-demand w p T ok l h = claim-is w p T ok l h

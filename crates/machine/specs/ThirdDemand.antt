@@ -9,22 +9,20 @@ use Rattle.common.specs.Lists.{all}
 use Rattle.refusal.specs.declared.Answer.{Answer}
 use Rattle.refusal.specs.declared.Answer.the-variants.{Accepted, Refused}
 use Rattle.refusal.specs.declared.Refusal.{Refusal}
-use Rattle.names.specs.declared.Name.{Name}
 use Rattle.zones.specs.declared.TrainingProfile.{TrainingProfile}
 use Rattle.zones.specs.Zones.{profileOk}
 use Rattle.model.specs.declared.Length.{Length}
 use Rattle.model.specs.declared.Length.the-variants.{Time, Distance, Open}
 use Rattle.model.specs.declared.Target.{Target}
 use Rattle.model.specs.declared.Target.the-variants.{Free, Ftp, Watts, HeartZone, Lthr, Cadence, Ramp, FtpRamp}
-use Rattle.model.specs.declared.Test.{Test}
 use Rattle.model.specs.declared.Step.{Step}
 use Rattle.model.specs.declared.Workout.{Workout}
 use Rattle.model.specs.Workout.{stepsOf}
 use Rattle.validation.specs.Sound.{workoutAnswer}
 use Rattle.events.specs.Events.{Event}
-use Rattle.state.specs.declared.Summary.{Summary}
 use Rattle.state.specs.declared.Player.{Player}
 use Rattle.start.specs.Start.{newOf}
+use Rattle.history.specs.Record.{recordOf, recordBytes}
 use Rattle.machine.specs.Machine.{Machine, greatest, milliseconds, summaryOf}
 use Rattle.machine.specs.Cutting.{Call, CutCall, Piece, uncut, cut, sumMs, AllWellCut}
 use Rattle.machine.specs.Runs.{called, Run, run, Progress, begun, afterPieces, afterCalls, piecesAsk, callsAsk, lasts}
@@ -56,18 +54,15 @@ pub record Taken (w : Workout) : Type 0 where
   pub plain : all isPlain (stepsOf w) ≡ true
   pub twelve : length (w .steps) ≡ 12
 
--- The record writer's bytes, of a workout's name and test, a summary, and journal, id, start and whether it is dated.
-abbrev pub Writer : Type 0
-Writer = Name → Test → Summary → ℕ → ℕ → ℕ → Bool → List ℕ
-
--- "The stored record is what the record writer gives for the player"
-abbrev pub playerRecord : Writer → Player → ℕ → ℕ → ℕ → Bool → List ℕ
-playerRecord write player journal id began dated =
-    write (player .workout .name) (player .workout .test) (player .core .summary) journal id began dated
+-- "The stored record is what the record writer gives for the player": the bytes of the workout's name and test, the player's summary, and
+-- journal, id, start and whether it is dated.
+abbrev pub playerRecord : Player → ℕ → ℕ → ℕ → Bool → List ℕ
+playerRecord player journal id began dated =
+    recordBytes (recordOf (player .workout .name) (player .workout .test) (player .core .summary) journal id began dated)
 
 -- "Its record is the writer's, of these fields, the workout's name, test and played length, and the journal, id and start handed in."
-abbrev pub machineRecord : Writer → Workout → Machine → ℕ → ℕ → ℕ → Bool → List ℕ
-machineRecord write w m journal id began dated = write (w .name) (w .test) (summaryOf w m) journal id began dated
+abbrev pub machineRecord : Workout → Machine → ℕ → ℕ → ℕ → Bool → List ℕ
+machineRecord w m journal id began dated = recordBytes (recordOf (w .name) (w .test) (summaryOf w m) journal id began dated)
 
 -- "those of kinds 1 to 3"
 abbrev pub isCompared : Event → Bool
@@ -85,11 +80,11 @@ abbrev pub uncutRun : Workout → TrainingProfile → List CutCall → Run
 uncutRun w p l = run p (uncut l) (newOf w .player)
 
 -- After all calls of a list.
-pub record After (write : Writer) (w : Workout) (p : TrainingProfile) (l : List CutCall) : Type 0 where
+pub record After (w : Workout) (p : TrainingProfile) (l : List CutCall) : Type 0 where
   -- "the stored record is byte for byte that of document 01's millisecond machine, fed the uncut list", "with whatever journal, id
   -- and start"
   pub bytes : (journal id began : ℕ) (dated : Bool)
-      → playerRecord write (cutRun w p l .player) journal id began dated ≡ machineRecord write w (afterCalls w p l begun .machine) journal id began dated
+      → playerRecord (cutRun w p l .player) journal id began dated ≡ machineRecord w (afterCalls w p l begun .machine) journal id began dated
   -- "The started, finished and FTP events given so far are exactly that machine's, in order."
   pub events : compared (cutRun w p l .events) ≡ afterCalls w p l begun .machine .events
   -- What is refused as the cut list runs is what the machine's own questions refuse, call by call.
@@ -100,15 +95,15 @@ abbrev pub AllAccepted : List Answer → Type 0
 AllAccepted [] = Unit
 AllAccepted (answer ∷ answers) = (answer ≡ Accepted) × AllAccepted answers
 
-pub record Claim (write : Writer) (w : Workout) (p : TrainingProfile) (l : List CutCall) : Type 0 where
+pub record Claim (w : Workout) (p : TrainingProfile) (l : List CutCall) : Type 0 where
   -- "at the start, and after each call of the uncut list"
-  pub after : (n : ℕ) → After write w p (take n l)
+  pub after : (n : ℕ) → After w p (take n l)
   -- "Where the uncut list, played as it stands, has nothing refused, the cut one hasn't either."
   pub unrefused : AllAccepted (uncutRun w p l .answers) → AllAccepted (cutRun w p l .answers)
 
 abbrev pub ThirdDemand : Type 0
 ThirdDemand =
-    (write : Writer) (w : Workout) (p : TrainingProfile) → Taken w → profileOk p ≡ true → (l : List CutCall) → AllWellCut l → Claim write w p l
+    (w : Workout) (p : TrainingProfile) → Taken w → profileOk p ≡ true → (l : List CutCall) → AllWellCut l → Claim w p l
 
 -- Laws beside it.
 
