@@ -34,7 +34,7 @@ fn file_of(workout: &WorkoutWords, name: &[u8], notes: &[Vec<u8>]) -> Vec<u8> {
     mended(&body)
 }
 
-fn without_notes(workout: &WorkoutWords) -> Vec<u8> {
+pub fn without_notes(workout: &WorkoutWords) -> Vec<u8> {
     file_of(workout, b"", &vec![Vec::new(); workout.steps.len()])
 }
 
@@ -181,7 +181,7 @@ fn name(random: &mut Random) -> Vec<u8> {
 }
 
 /// A sound file, now and then with other fillers than 0.
-fn sound_file(random: &mut Random, workout: &WorkoutWords) -> Vec<u8> {
+pub fn sound_file(random: &mut Random, workout: &WorkoutWords) -> Vec<u8> {
     let name_bytes = name(random);
     let notes: Vec<Vec<u8>> = (0..workout.steps.len()).map(|_| name(random)).collect();
     let mut filled = workout.clone();

@@ -1,4 +1,5 @@
-//! Inputs for each question: its limits, and random ones from a seed.
+//! Inputs for each question, and lists of calls on a player: limits, and random ones from a seed.
+pub mod calls;
 pub mod files;
 pub mod records;
 

@@ -27,7 +27,8 @@
 use vana::ride::zones::TrainingProfile;
 use vana::workout::codec::{self, DecodeError};
 use vana::workout::model::{
-    Block, Intensity, Invalid, Length, MAX_BLOCKS, MAX_STEPS, Metric, Name, Ramp, Step, Target, Test, Workout,
+    Band, Block, Intensity, Invalid, Length, MAX_BLOCKS, MAX_STEPS, Metric, Name, Played, Ramp, Step, Target, Test,
+    Workout,
 };
 
 pub const NAMES: [&str; 13] = [
@@ -162,11 +163,25 @@ fn order(workout: &Workout) -> Vec<u32> {
         return Vec::new();
     }
     let mut words = vec![workout.played_len() as u32, workout.planned_secs(), u32::from(workout.has_untimed_steps())];
-    words.extend(workout.played().map(|played| {
-        1 << 24 | u32::from(played.index) << 16 | u32::from(played.repetition) << 8 | u32::from(played.of)
-    }));
+    words.extend(workout.played().map(|played| played_word(&played)));
     words.push(0);
     words
+}
+
+pub fn played_word(played: &Played) -> u32 {
+    1 << 24 | u32::from(played.index) << 16 | u32::from(played.repetition) << 8 | u32::from(played.of)
+}
+
+pub fn band_words(band: Option<Band>) -> [u32; 4] {
+    let Some(band) = band else {
+        return [0; 4];
+    };
+    let metric = match band.metric {
+        Metric::Power => 0,
+        Metric::Heart => 1,
+        Metric::Cadence => 2,
+    };
+    [1, metric, band.low.into(), band.high.into()]
 }
 
 fn name_words(name: &Name) -> Vec<u32> {
@@ -177,7 +192,7 @@ fn name_words(name: &Name) -> Vec<u32> {
     words
 }
 
-fn step_words(step: &Step) -> Vec<u32> {
+pub fn step_words(step: &Step) -> Vec<u32> {
     let intensity = match step.intensity {
         Intensity::Warmup => 0,
         Intensity::Work => 1,
@@ -259,17 +274,7 @@ pub fn answer(question: usize, input: &[u8]) -> Vec<u32> {
             let (low, next) = profile(input).heart_range(at(2) as u8);
             vec![low, next]
         }
-        BAND => match target_at(input, 3).band(&profile(input), at(2)) {
-            None => vec![0, 0, 0, 0],
-            Some(band) => {
-                let metric = match band.metric {
-                    Metric::Power => 0,
-                    Metric::Heart => 1,
-                    Metric::Cadence => 2,
-                };
-                vec![1, metric, band.low.into(), band.high.into()]
-            }
-        },
+        BAND => band_words(target_at(input, 3).band(&profile(input), at(2))).to_vec(),
         RAMP => match target_at(input, 2).ramp(&profile(input)) {
             None => vec![0, 0, 0, 0],
             Some(ramp) => vec![1, ramp.start.into(), ramp.step.into(), ramp.every.into()],

@@ -286,7 +286,7 @@ fn metric_number(metric: Metric) -> u32
     }
 }
 
-fn band_word(found: BandOption, place: u32) -> u32
+pub fn band_word(found: BandOption, place: u32) -> u32
     ensures { λ r. ⌜ r ≡ bandWord found place ⌝ }
 {
     match found {
@@ -353,7 +353,7 @@ pub fn refused_number(answer: Answer) -> u32
     }
 }
 
-fn played_word(option: PlayedOption) -> u32
+pub fn played_word(option: PlayedOption) -> u32
     ensures { λ r. ⌜ r ≡ playedWord option ⌝ }
 {
     let played = option.played;

@@ -49,7 +49,7 @@ fn head_word(read: Decoded, place: u32) -> u32
     }
 }
 
-fn step_word(step: Step, place: u32) -> u32
+pub fn step_word(step: Step, place: u32) -> u32
     ensures { λ r. ⌜ r ≡ stepWord step place ⌝ }
 {
     let intensity = step.intensity;

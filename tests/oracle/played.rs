@@ -1,0 +1,414 @@
+//! The Rust's player over a list of calls, and the words that its outcome is compared by. Crates `compare_player` and
+//! `compare_reports` answer in the same words. A list is bytes, little-endian 32-bit words, eight to a call: kind (a number of
+//! `READ` to `SET`), FTP, LTHR, ms, mm, power, heart, cadence tenths. Past the end all are 0. A reading is 0 where it is absent,
+//! else one more than it is. `SET` sets a field of our player, and nothing of the Rust's: ms is the field, mm and power the
+//! lower and the upper half of its value.
+//!
+//! The answer is `WORDS` words on the fresh player, then as many after each call, in groups of 16:
+//!
+//! | group | words |
+//! | --- | --- |
+//! | 0 | refusal of the call (0 accepted; of `new` at first), events, parts, check word of the events, 1 if `extend` extended; `summary`: refusal, targeted, in, under, over, FTP, steps done, steps, skipped, finished; `in_target_pct` |
+//! | 1 | `remaining_secs`: refusal, 1 if there is a number, the number; `distance_step`: refusal, 1 or 0; `until_end` of the call's ms and mm: refusal, ms, mm; the band of `now` in four words |
+//! | 2 | `now`: refusal, position, steps, ramp watts, reading, compliance (0 none, 1 under, 2 in, 3 over), left (0 seconds, 1 metres, 2 open), its number, progress, test (0 none, 1 average, 2 best minute), its number, the step on now and the next one, as in the playing order |
+//! | 3, 4 | those two steps, 13 words each |
+//!
+//! An absent FTP, percentage, ramp or reading is 0, else one more than the number. The Rust asks nothing of a player or its
+//! arguments, so document 01's questions 10 to 13 and 15 are asked here; 14 and 20 aren't reached. A file that is refused
+//! leaves a player of the empty workout, which is refused 6 by `new` and doesn't stand.
+use questions::{band_words, played_word, step_words};
+use vana::ride::{log::Sample, zones::TrainingProfile};
+use vana::workout::codec;
+use vana::workout::model::{Intensity, Length, MAX_PLAYED, Played, Step, Target, Workout};
+use vana::workout::player::{Compliance, EXTEND_M, EXTEND_S, Event, Left, Now, Player, Summary, TestReadout};
+
+pub const WORDS: usize = 80;
+const GROUP: usize = 16;
+
+pub const READ: u32 = 0;
+pub const RIDE: u32 = 1;
+pub const ADD: u32 = 2;
+pub const SKIP: u32 = 3;
+pub const EXTEND: u32 = 4;
+pub const SET: u32 = 5;
+
+/// The room of the Rust's `Events`.
+const EVENTS: usize = 16;
+/// The check word of no events.
+const NO_EVENTS: u32 = 7;
+
+#[derive(Clone, Copy, Debug, Default)]
+pub struct Call {
+    pub kind: u32,
+    pub ftp: u32,
+    pub lthr: u32,
+    pub ms: u32,
+    pub mm: u32,
+    pub power: u32,
+    pub heart: u32,
+    pub cadence: u32,
+}
+
+impl Call {
+    pub fn words(&self) -> [u32; 8] {
+        [self.kind, self.ftp, self.lthr, self.ms, self.mm, self.power, self.heart, self.cadence]
+    }
+
+    fn profile(&self) -> TrainingProfile {
+        TrainingProfile { ftp_watts: self.ftp as u16, lthr_bpm: self.lthr as u16 }
+    }
+
+    fn sample(&self) -> Sample {
+        let reading = |word: u32| word.checked_sub(1).map(|value| value as u16);
+        Sample {
+            power_watts: reading(self.power),
+            heart_bpm: reading(self.heart),
+            cadence_tenths: reading(self.cadence),
+        }
+    }
+}
+
+pub fn bytes_of(calls: &[Call]) -> Vec<u8> {
+    calls.iter().flat_map(|call| questions::bytes_of(&call.words())).collect()
+}
+
+/// How often each thing was met, by the numbers of document 01's tables.
+#[derive(Default)]
+pub struct Met {
+    pub calls: [u64; 5],
+    pub refused: [u64; 21],
+    pub events: [u64; 4],
+    /// Updates with more events than the Rust's `Events` holds: `add` isn't asked there, `ride_part` is.
+    pub many_events: u64,
+    /// Parts ridden in a step of each length and each target.
+    pub lengths: [u64; 3],
+    pub targets: [u64; 8],
+    pub failed_ramps: u64,
+    pub finished: u64,
+}
+
+impl Met {
+    /// The things that weren't met. Questions 14 and 20 have no place here.
+    pub fn missing(&self) -> Vec<String> {
+        let of = |name: &str, counts: &[u64]| -> Vec<String> {
+            (0..counts.len()).filter(|&i| counts[i] == 0).map(|i| format!("{name} {i}")).collect()
+        };
+        let asked: Vec<u64> = [0, 10, 11, 12, 13, 15].iter().map(|&number| self.refused[number]).collect();
+        let rest = [self.failed_ramps, self.finished, self.many_events];
+        [
+            of("call", &self.calls),
+            of("refusal 0, 10, 11, 12, 13, 15, place", &asked),
+            of("event", &self.events),
+            of("length", &self.lengths),
+            of("target", &self.targets),
+            of("failed ramp, finish, more than 16 events, place", &rest),
+        ]
+        .concat()
+    }
+}
+
+/// What a call gave.
+struct Given {
+    number: u32,
+    events: Vec<Event>,
+    parts: u32,
+    extended: bool,
+}
+
+fn nothing(number: u32) -> Given {
+    Given { number, events: Vec::new(), parts: 0, extended: false }
+}
+
+fn event_words(event: Event) -> (u32, u32) {
+    match event {
+        Event::Countdown(secs) => (0, secs),
+        Event::Started(position) => (1, position as u32),
+        Event::Finished => (2, 0),
+        Event::Ftp(watts) => (3, watts.into()),
+    }
+}
+
+fn check_word(events: &[Event]) -> u32 {
+    events.iter().fold(NO_EVENTS, |check, &event| {
+        let (kind, value) = event_words(event);
+        ((u64::from(check) * 31 + u64::from(kind) * 65_536 + u64::from(value) + 1) % 1_000_000_007) as u32
+    })
+}
+
+fn profile_refused(profile: &TrainingProfile) -> bool {
+    !(50..=600).contains(&profile.ftp_watts) || !(1..=255).contains(&profile.lthr_bpm)
+}
+
+fn update_refused(call: &Call) -> bool {
+    call.ms > 86_400_000 || call.mm > 1_000_000_000
+}
+
+/// A list being played. `add` is the Rust's own where its events have room, so a second player goes along, on which it is
+/// composed first.
+struct List {
+    player: Player,
+    second: Player,
+    sample: Sample,
+    total_ms: u64,
+    total_mm: u64,
+    /// Touches in the step on now.
+    touches: u32,
+}
+
+impl List {
+    fn new(workout: &Workout) -> Self {
+        List {
+            player: Player::new(workout.clone()),
+            second: Player::new(workout.clone()),
+            sample: Sample::default(),
+            total_ms: 0,
+            total_mm: 0,
+            touches: 0,
+        }
+    }
+
+    /// The first question that refuses, or 0.
+    fn refusal(&self, call: &Call) -> u32 {
+        let cadence = call.sample().cadence_tenths.is_some_and(|tenths| tenths > 65_530);
+        let total_ms = self.total_ms + u64::from(call.ms);
+        let total_mm = self.total_mm + u64::from(call.mm);
+        let totals = total_ms > 604_800_000 || total_mm > 7_000_000_000;
+        let left = self.player.now(&call.profile()).left;
+        let extra = match left {
+            Left::Secs(_) => (self.touches + 1) * EXTEND_S > 86_400,
+            Left::Metres(_) => (self.touches + 1) * EXTEND_M > 1_000_000,
+            Left::Open(_) => false,
+        };
+        let asked: &[(bool, u32)] = match call.kind {
+            READ => &[(cadence, 11)],
+            RIDE => &[(profile_refused(&call.profile()), 10), (update_refused(call), 12), (totals, 13)],
+            ADD => &[(profile_refused(&call.profile()), 10), (cadence, 11), (update_refused(call), 12), (totals, 13)],
+            EXTEND => &[(extra && !self.player.done(), 15)],
+            _ => &[],
+        };
+        asked.iter().find(|(refused, _)| *refused).map_or(0, |&(_, number)| number)
+    }
+
+    fn play(&mut self, call: &Call, met: &mut Met) -> Given {
+        let refusal = self.refusal(call);
+        met.calls[call.kind as usize] += 1;
+        met.refused[refusal as usize] += 1;
+        if refusal != 0 {
+            return nothing(refusal);
+        }
+        let done = self.player.summary().steps_done;
+        let given = match call.kind {
+            READ => {
+                self.sample = call.sample();
+                self.player.read(&self.sample);
+                self.second.read(&self.sample);
+                nothing(0)
+            }
+            RIDE => {
+                let update = ride(&mut self.second, call, &self.sample, met);
+                ride(&mut self.player, call, &self.sample, &mut Met::default());
+                self.count(call);
+                update
+            }
+            ADD => self.add(call, met),
+            SKIP => {
+                self.second.skip();
+                Given { events: self.player.skip().iter().copied().collect(), ..nothing(0) }
+            }
+            EXTEND => {
+                self.second.extend();
+                let extended = self.player.extend();
+                self.touches += u32::from(extended);
+                Given { extended, ..nothing(0) }
+            }
+            kind => panic!("there is no call {kind}"),
+        };
+        if self.player.summary().steps_done != done {
+            self.touches = 0;
+        }
+        for &event in &given.events {
+            met.events[event_words(event).0 as usize] += 1;
+        }
+        met.finished += u64::from(given.events.contains(&Event::Finished));
+        given
+    }
+
+    fn count(&mut self, call: &Call) {
+        if call.ms > 0 {
+            self.total_ms += u64::from(call.ms);
+            self.total_mm += u64::from(call.mm);
+        }
+    }
+
+    fn add(&mut self, call: &Call, met: &mut Met) -> Given {
+        if call.ms == 0 {
+            let events = self.player.add(0, call.mm.into(), &call.sample(), &call.profile());
+            return Given { events: events.iter().copied().collect(), ..nothing(0) };
+        }
+        self.count(call);
+        self.sample = call.sample();
+        self.second.read(&self.sample);
+        let update = ride(&mut self.second, call, &self.sample, met);
+        if update.events.len() <= EVENTS {
+            let events = self.player.add(call.ms.into(), call.mm.into(), &self.sample, &call.profile());
+            return Given { events: events.iter().copied().collect(), ..update };
+        }
+        self.player.read(&self.sample);
+        ride(&mut self.player, call, &self.sample, &mut Met::default());
+        update
+    }
+
+    fn words(&self, given: &Given, call: &Call) -> Vec<u32> {
+        let mut groups = [[0; GROUP]; WORDS / GROUP];
+        let player = &self.player;
+        groups[0] = given_words(given, 0, player.summary());
+        let secs = player.remaining_secs();
+        groups[1][1] = secs.is_some().into();
+        groups[1][2] = secs.unwrap_or(0);
+        groups[1][4] = player.distance_step().into();
+        if update_refused(call) {
+            groups[1][5] = 12;
+        } else {
+            let (ms, mm) = player.until_end(call.ms.into(), call.mm.into());
+            groups[1][6..8].copy_from_slice(&[ms as u32, mm as u32]);
+        }
+        let profile = call.profile();
+        if profile_refused(&profile) {
+            no_now(10, &mut groups);
+        } else {
+            now_words(&player.now(&profile), &mut groups);
+        }
+        groups.concat()
+    }
+}
+
+/// The loop of `add` without its `read`, composed of `until_end` and `ride_part`.
+fn ride(player: &mut Player, call: &Call, sample: &Sample, met: &mut Met) -> Given {
+    let profile = call.profile();
+    let (mut ms, mut mm) = (u64::from(call.ms), u64::from(call.mm));
+    let (mut events, mut parts) = (Vec::new(), 0);
+    if ms > 0 {
+        for _ in 0..=MAX_PLAYED {
+            if player.done() || ms == 0 {
+                break;
+            }
+            let on = player.now(&profile).played.step;
+            let done = player.summary().steps_done;
+            let (part_ms, part_mm) = player.until_end(ms, mm);
+            ms -= part_ms;
+            mm -= part_mm;
+            events.extend(player.ride_part(part_ms, part_mm, sample, &profile).iter().copied());
+            parts += 1;
+            let words = step_words(&on);
+            met.lengths[words[1] as usize] += 1;
+            met.targets[words[3] as usize] += 1;
+            met.failed_ramps += u64::from(on.length == Length::Open && player.summary().steps_done != done);
+        }
+    }
+    met.many_events += u64::from(events.len() > EVENTS);
+    Given { parts, events, ..nothing(0) }
+}
+
+fn optional(number: Option<u16>) -> u32 {
+    number.map_or(0, |number| u32::from(number) + 1)
+}
+
+fn given_words(given: &Given, refusal: u32, summary: Summary) -> [u32; GROUP] {
+    [
+        given.number,
+        given.events.len() as u32,
+        given.parts,
+        check_word(&given.events),
+        given.extended.into(),
+        refusal,
+        summary.targeted_ms as u32,
+        summary.in_ms as u32,
+        summary.under_ms as u32,
+        summary.over_ms as u32,
+        optional(summary.ftp),
+        summary.steps_done.into(),
+        summary.steps.into(),
+        summary.skipped.into(),
+        summary.finished.into(),
+        optional(summary.in_target_pct().map(u16::from)),
+    ]
+}
+
+fn now_words(now: &Now, groups: &mut [[u32; GROUP]; WORDS / GROUP]) {
+    let compliance = match now.compliance {
+        None => 0,
+        Some(Compliance::Under) => 1,
+        Some(Compliance::In) => 2,
+        Some(Compliance::Over) => 3,
+    };
+    let (left, left_value) = match now.left {
+        Left::Secs(secs) => (0, secs),
+        Left::Metres(metres) => (1, metres),
+        Left::Open(secs) => (2, secs),
+    };
+    let (test, watts) = match now.test {
+        None => (0, 0),
+        Some(TestReadout::Average(watts)) => (1, watts),
+        Some(TestReadout::BestMinute(watts)) => (2, watts),
+    };
+    groups[1][8..12].copy_from_slice(&band_words(now.band));
+    groups[2][..13].copy_from_slice(&[
+        0,
+        now.position.into(),
+        now.steps.into(),
+        optional(now.ramp_watts),
+        optional(now.reading),
+        compliance,
+        left,
+        left_value,
+        now.progress.into(),
+        test,
+        watts.into(),
+        played_word(&now.played),
+        now.next.map_or(0, |played| played_word(&played)),
+    ]);
+    steps_of(&now.played.step, now.next, groups);
+}
+
+fn no_step() -> Step {
+    Step::new(Intensity::Work, Length::Open, Target::Free)
+}
+
+fn steps_of(on: &Step, next: Option<Played>, groups: &mut [[u32; GROUP]; WORDS / GROUP]) {
+    groups[3][..13].copy_from_slice(&step_words(on));
+    groups[4][..13].copy_from_slice(&step_words(&next.map_or(no_step(), |played| played.step)));
+}
+
+/// Refused, `now` gives nothing: an open step that has run 0 s, at place 0 of the order.
+fn no_now(number: u32, groups: &mut [[u32; GROUP]; WORDS / GROUP]) {
+    groups[2][0] = number;
+    groups[2][6] = 2;
+    groups[2][11] = 1 << 24 | 1;
+    steps_of(&no_step(), None, groups);
+}
+
+/// What is given of a player that doesn't stand: nothing, refused 20.
+fn fallen(number: u32) -> Vec<u32> {
+    let mut groups = [[0; GROUP]; WORDS / GROUP];
+    groups[0] = given_words(&nothing(number), 20, Summary::default());
+    for place in [0, 3, 5] {
+        groups[1][place] = 20;
+    }
+    no_now(20, &mut groups);
+    groups.concat()
+}
+
+/// The Rust's answer on a workout file and a list of calls.
+pub fn answer(file: &[u8], calls: &[Call], met: &mut Met) -> Vec<u32> {
+    let Ok(workout) = codec::decode(file) else {
+        return [vec![fallen(6)], vec![fallen(20); calls.len()]].concat().concat();
+    };
+    let mut list = List::new(&workout);
+    let first = calls.first().copied().unwrap_or_default();
+    let mut words = list.words(&nothing(0), &first);
+    for call in calls {
+        let given = list.play(call, met);
+        words.extend(list.words(&given, call));
+    }
+    words
+}

@@ -1,0 +1,85 @@
+//! The player on both sides: the Rust's, and the Rattle's of crate `compare_player` from a static library, on lists of calls at
+//! limits and on random ones. Words: how many calls at least, and the seed. Writes how many calls and words were compared and
+//! what was met. Fails where a word differs, and where a kind of call, event, length, target or refusal or a failed ramp wasn't
+//! met.
+use inputs::Random;
+use inputs::calls::{Play, limit_plays, random_play};
+use played::{Call, Met, WORDS, answer, bytes_of};
+
+#[link(name = "compare_player", kind = "static")]
+unsafe extern "C" {
+    /// As many words of the answer as there are places for. A slice goes as its pointer and its length.
+    safe fn compare_player(
+        file: *const u8,
+        file_length: usize,
+        calls: *const u8,
+        calls_length: usize,
+        answer: *mut u32,
+        places: usize,
+    );
+}
+
+fn ours(file: &[u8], calls: &[Call]) -> Vec<u32> {
+    let list = bytes_of(calls);
+    let mut answer = vec![0; WORDS * (calls.len() + 1)];
+    compare_player(file.as_ptr(), file.len(), list.as_ptr(), list.len(), answer.as_mut_ptr(), answer.len());
+    answer
+}
+
+/// Lists that differ are written out up to the call after which they do, so many of them.
+const SHOWN: u64 = 3;
+
+#[derive(Default)]
+struct Tally {
+    lists: u64,
+    calls: u64,
+    words: u64,
+    different: u64,
+}
+
+fn compare(play: &Play, tally: &mut Tally, met: &mut Met) {
+    let judged = answer(&play.file, &play.calls, met);
+    let ours = ours(&play.file, &play.calls);
+    tally.lists += 1;
+    tally.calls += play.calls.len() as u64;
+    tally.words += judged.len() as u64;
+    if ours == judged {
+        return;
+    }
+    tally.different += 1;
+    if tally.different <= SHOWN {
+        let at = (0..judged.len()).find(|&at| ours[at] != judged[at]).unwrap();
+        let (block, place) = (at / WORDS, at % WORDS);
+        println!("file {:?}\ncalls {:?}", play.file, play.calls[..block].iter().map(Call::words).collect::<Vec<_>>());
+        println!("  after {block} calls, word {place}: Rust {}, Rattle {}", judged[at], ours[at]);
+    }
+}
+
+fn main() {
+    let numbers: Vec<u64> = std::env::args().skip(1).map(|word| word.parse().expect("CALLS SEED")).collect();
+    let [count, seed] = numbers[..] else { panic!("CALLS SEED") };
+    let mut random = Random(seed);
+    let (mut tally, mut met) = (Tally::default(), Met::default());
+    for play in limit_plays() {
+        compare(&play, &mut tally, &mut met);
+    }
+    while tally.calls < count {
+        compare(&random_play(&mut random), &mut tally, &mut met);
+    }
+    println!(
+        "player: {} lists, {} calls, {} words compared, {} lists different",
+        tally.lists, tally.calls, tally.words, tally.different
+    );
+    println!("calls (read, ride, add, skip, extend): {:?}", met.calls);
+    println!("accepted, then refused by 1 to 20: {:?}", met.refused);
+    println!("events (countdown, started, finished, FTP): {:?}", met.events);
+    println!("updates with more than 16 events: {}", met.many_events);
+    println!("parts by length (time, distance, open): {:?}", met.lengths);
+    println!("parts by target (0 to 7): {:?}", met.targets);
+    println!("failed ramps: {}, finished: {}", met.failed_ramps, met.finished);
+    let missing = met.missing();
+    if !missing.is_empty() {
+        println!("not met: {missing:?}");
+    }
+    std::process::exit((tally.different > 0 || !missing.is_empty()).into());
+}
