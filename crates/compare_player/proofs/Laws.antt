@@ -4,6 +4,7 @@ use mathlib.Core.Bool.{Bool, true, false, cond}
 use mathlib.Core.List.{List}
 use Prim.Native.Nat.{ℕ, suc, _+_, _-_, _/_, _%_, _≤_, _<_, min}
 use native.Mathlib.Nat.{zero-add}
+use native.Mathlib.Numerals.{add-one}
 use native.Mathlib.Omega.{arith}
 use lib.Dec.{eqb}
 use lib.ListN.{getD}
@@ -39,6 +40,10 @@ module _ (ks vs : List ℕ) (n : ℕ) where
 pub answers-turn : {ks vs : List ℕ} {r : Update} {o : Called} → Answers places places ks vs r o
     → turnOf r (checkFrom ks vs 0 (min (r .events) 193) 7) ≡ calledTurn o
 answers-turn a = simp (a .answer, a .player, a .parts, a .wrote .count, a .wrote .kinds, a .wrote .values, zero-add)
+
+pub seen-turn : (file calls : List ℕ) (i : ℕ) → turned calls (seenAfter file calls i) i ≡ seenAfter file calls (i + 1)
+unfolding seenAfter
+seen-turn file calls i = rw add-one
 
 -- the call that comes after word i is played before word i + 1
 pub seen-next : (file calls : List ℕ) (i : ℕ) → nextSeen calls (seenAfter file calls (i / 80)) i ≡ seenAfter file calls ((i + 1) / 80)

@@ -3,11 +3,13 @@
 use mathlib.Core.Bool.{false, cond}
 use mathlib.Core.List.{List, [], _∷_}
 use Prim.Native.Nat.{ℕ, zero, suc, _+_, _-_, _*_, _/_, _%_, min}
-use lib.Dec.{eqb}
+use lib.Dec.{eqb, ltb, leb}
 use lib.ListN.{length, getD, replicate}
-use Rattle.le.specs.Le.{written}
+use Rattle.le.specs.Le.{part, written}
 use Rattle.refusal.specs.Number.{answerNumber}
 use Rattle.compare.specs.Input.{wordAt, low16}
+use Rattle.compare_fields.specs.Fields.{setField}
+use Rattle.compare_files.specs.Files.{questionWord}
 use Rattle.compare_reports.specs.Words.{reportedOf, seenWord}
 use Rattle.compare_reports.specs.declared.Given.{Given}
 use Rattle.decode.specs.Decode.{decodeOf}
@@ -105,12 +107,16 @@ extendedTurn e =
 abbrev pub extendTurn : Player → Turn
 extendTurn p = extendedTurn (extendOf p)
 
+-- no call of the player's, for players that no list of calls reaches: field `ms` set to `mm` and, above its 32 bits, `power`
+abbrev pub setTurn : Player → Call → Turn
+setTurn p call = record { player = setField p (call .ms) (call .mm + 4294967296 * call .power); given = noEvents 0 }
+
 -- by the call's kind
 abbrev pub turns : Player → Call → List Turn
-turns p call = readTurn p call ∷ rideTurn p call ∷ addTurn p call ∷ skipTurn p ∷ []
+turns p call = readTurn p call ∷ rideTurn p call ∷ addTurn p call ∷ skipTurn p ∷ extendTurn p ∷ []
 
 unfoldable pub played : Player → Call → Turn
-played p call = getD (turns p call) (call .kind) (extendTurn p)
+played p call = getD (turns p call) (call .kind) (setTurn p call)
 
 -- The reports after a call; `until_end` of the call's ms and mm.
 abbrev pub lookedAt : Turn → Call → Seen
@@ -138,3 +144,20 @@ nextSeen calls seen i = cond (eqb (i % 80) 79) (turned calls seen (i / 80)) seen
 -- the words of the fresh player, then those after each call
 unfoldable pub wordAfter : List ℕ → List ℕ → ℕ → ℕ
 wordAfter file calls i = seenWord (seenAfter file calls (i / 80) .given) (seenAfter file calls (i / 80) .reported) (i % 80)
+
+-- One word of an answer, from an input of the number of the file's bytes, the file and the calls; 0 where the file isn't whole.
+abbrev pub between : List ℕ → ℕ → ℕ → List ℕ
+between list from to = part list from (to - from)
+
+abbrev pub wordOf : List ℕ → ℕ → ℕ → ℕ
+wordOf input end place = wordAfter (between input 4 end) (between input end (length input)) place
+
+abbrev pub playerFrom : List ℕ → ℕ → ℕ → ℕ
+playerFrom input size place = cond (ltb (length input - 4) size) 0 (cond (leb 1000000 place) 0 (wordOf input (4 + size) place))
+
+unfoldable pub playerWord : List ℕ → ℕ → ℕ
+playerWord input place = cond (ltb (length input) 4) 0 (playerFrom input (wordAt input 0) place)
+
+-- question 13 is that on the player; the others are asked in crate `compare_files`
+unfoldable pub anyWord : ℕ → List ℕ → ℕ → ℕ
+anyWord question input place = cond (eqb question 13) (playerWord input place) (questionWord question input place)

@@ -4,10 +4,12 @@ ghost use mathlib.Core.Path.{_≡_};
 ghost use Prim.Native.Nat.{_≤_, _<_, min};
 ghost use lib.ListN.{length};
 ghost use Rattle.compare_files.specs.Files.{filled};
-ghost use Rattle.compare_player.specs.Calls.{mixed, checkFrom, readingFrom, callAt, sampleOf, turnOf, noEvents, readTurn, rideTurn, addTurn, skipTurn, extendTurn, played, lookedAt, turned, begun, nextSeen, wordAfter};
+ghost use Rattle.compare_player.specs.Calls.{mixed, checkFrom, readingFrom, callAt, sampleOf, turnOf, readTurn, rideTurn, addTurn, skipTurn, extendTurn, setTurn, played, lookedAt, turned, begun, seenAfter, nextSeen, wordAfter, playerWord, anyWord};
 use common::least;
 use compare::refused_number;
 use compare::word_at;
+use compare_fields::set_field;
+use compare_files::question_word;
 use compare_reports::Given;
 use compare_reports::Reported;
 use compare_reports::report;
@@ -184,7 +186,26 @@ fn extend(player: Player) -> Turn
     }
 }
 
-// By the call's kind: read, ride, add, skip, extend.
+// Field `ms` of the player set to `mm` and, above its 32 bits, `power`.
+fn set(player: Player, call: Call) -> Turn
+    ensures { λ r. ⌜ r ≡ setTurn player call ⌝ }
+{
+    let value = (call.mm as u64) + 4294967296 * (call.power as u64);
+    let after = set_field(player, call.ms, value);
+    let given = Given {
+        number: 0,
+        events: 0,
+        parts: 0,
+        check: 7,
+        extended: false,
+    };
+    Turn {
+        player: after,
+        given,
+    }
+}
+
+// By the call's kind: read, ride, add, skip, extend, a field set.
 fn play(player: Player, call: Call) -> Turn
     ensures { λ r. ⌜ r ≡ played player call ⌝ }
 {
@@ -194,7 +215,8 @@ fn play(player: Player, call: Call) -> Turn
         1 => ride(player, call),
         2 => add(player, call),
         3 => skip(player),
-        _ => extend(player),
+        4 => extend(player),
+        _ => set(player, call),
     }
 }
 
@@ -267,5 +289,50 @@ pub extern "C" fn compare_player(file: &[u8], calls: &[u8], answer: &mut [u32])
         answer[i] = seen_word(given, reported, (i % 80) as u32);
         seen = next_seen(calls, seen, i);
         i += 1;
+    }
+}
+
+// The player after k calls.
+fn seen_at(file: &[u8], calls: &[u8], k: u32) -> Seen
+    requires { ⌜ k ≤ 12500 ⌝ }
+    ensures { λ r. ⌜ r ≡ seenAfter (now (file .entry)) (now (calls .entry)) k ⌝ }
+{
+    let mut seen = begin(file, calls);
+    let mut i = 0;
+    while i < k {
+        seen = take_turn(calls, i, seen);
+        i += 1;
+    }
+    seen
+}
+
+// A word of the answer on an input: the number of the file's bytes, the file, the calls.
+fn player_word(input: &[u8], place: u32) -> u32
+    ensures { λ r. ⌜ r ≡ playerWord (now (input .entry)) place ⌝ }
+{
+    let size = word_at(input, 0) as usize;
+    if input.len() < 4 {
+        return 0;
+    }
+    if input.len() - 4 < size {
+        return 0;
+    }
+    if 1000000 <= place {
+        return 0;
+    }
+    let end = 4 + size;
+    let seen = seen_at(&input[4..end], &input[end..], place / 80);
+    let given = seen.given;
+    let reported = seen.reported;
+    seen_word(given, reported, place % 80)
+}
+
+// The word at a place of the answer to any question, 13 being that on the player.
+pub fn any_word(question: u32, input: &[u8], place: u32) -> u32
+    ensures { λ r. ⌜ r ≡ anyWord question (now (input .entry)) place ⌝ }
+{
+    match question {
+        13 => player_word(input, place),
+        _ => question_word(question, input, place),
     }
 }

@@ -7,7 +7,7 @@ use native.Mathlib.Numerals.{add-one}
 use native.Mathlib.Omega.{arith}
 use lib.Dec.{eqb}
 use Rattle.compare.specs.Input.{wordAt}
-use Rattle.compare_files.specs.Files.{questionWord}
+use Rattle.compare_player.specs.Calls.{anyWord}
 use Rattle.vectors.specs.Replays.{Within, agrees, stepOf, steps}
 use Rattle.vectors.specs.declared.Entry.{Entry}
 use Rattle.vectors.specs.declared.Entry.the-variants.{Asked}
@@ -19,11 +19,11 @@ inside size at entry question end words e h = rw e at h
 
 module _ (question : ℕ) (input answer : List ℕ) (n i : ℕ) (same : Bool) where
   pub agrees-next : i < n
-      → ((same && eqb (questionWord question input i) (wordAt answer i)) && agrees question input answer (i + 1) (n - (i + 1)))
+      → ((same && eqb (anyWord question input i) (wordAt answer i)) && agrees question input answer (i + 1) (n - (i + 1)))
       ≡ (same && agrees question input answer i (n - i))
   unfolding agrees
   agrees-next h =
-      and-assoc same (eqb (questionWord question input i) (wordAt answer i)) (agrees question input answer (i + 1) (n - (i + 1)))
+      and-assoc same (eqb (anyWord question input i) (wordAt answer i)) (agrees question input answer (i + 1) (n - (i + 1)))
       ∙ ap (λ (k : ℕ). same && agrees question input answer i k) (left n i h)
     where
       left : (n i : ℕ) → i < n → suc (n - (i + 1)) ≡ n - i

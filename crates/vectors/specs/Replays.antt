@@ -7,7 +7,7 @@ use lib.Dec.{eqb, ltb, leb}
 use lib.ListN.{length}
 use Rattle.le.specs.Le.{numberOf, part}
 use Rattle.compare.specs.Input.{wordAt}
-use Rattle.compare_files.specs.Files.{questionWord}
+use Rattle.compare_player.specs.Calls.{anyWord}
 use Rattle.vectors.specs.declared.Entry.{Entry}
 use Rattle.vectors.specs.declared.Entry.the-variants.{Asked, Cut, End}
 use Rattle.vectors.specs.declared.Replay.{Replay}
@@ -46,7 +46,7 @@ Within size at (Asked question end words) = (at + 8 ≤ end) × (end + 4 + 4 * w
 unfoldable pub agrees : ℕ → List ℕ → List ℕ → ℕ → ℕ → Bool
 agrees question input answer i zero = true
 agrees question input answer i (suc n) =
-    eqb (questionWord question input i) (wordAt answer i) && agrees question input answer (i + 1) n
+    eqb (anyWord question input i) (wordAt answer i) && agrees question input answer (i + 1) n
 
 -- one more; no list is so long that it stops
 abbrev pub more : ℕ → ℕ

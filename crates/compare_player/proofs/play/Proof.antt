@@ -4,7 +4,7 @@ use Prim.Native.Nat.{ℕ}
 use lib.ListN.{getD}
 use borrow.Author.Needs.{needs}
 use Rattle.compare.proofs.Words.{past, at-least}
-use Rattle.compare_player.specs.Calls.{played, turns, extendTurn}
+use Rattle.compare_player.specs.Calls.{played, turns, setTurn}
 use Rattle.compare_player.proofs.play.Statement.{statement}
 use Rattle.compare_player.proofs.play.Tie as tie
 
@@ -23,25 +23,32 @@ skip-requires c κs = search needs
 extend-requires : tie.Need-extend-requires
 extend-requires c κs = search needs
 
+set-requires : tie.Need-set-requires
+set-requires c κs = search needs
+
 returns : tie.Need-returns
 unfolding played
-returns c = let a = c .before .before .args in c .read .ensures ∙ sym (ap (λ (k : ℕ). getD (turns (a .player) (a .call)) k (extendTurn (a .player))) (c .before .match .keys1))
+returns c = let a = c .before .before .args in c .read .ensures ∙ sym (ap (λ (k : ℕ). getD (turns (a .player) (a .call)) k (setTurn (a .player) (a .call))) (c .before .match .keys1))
 
 returns-2 : tie.Need-returns-2
 unfolding played
-returns-2 c = let a = c .before .before .args in c .ride .ensures ∙ sym (ap (λ (k : ℕ). getD (turns (a .player) (a .call)) k (extendTurn (a .player))) (c .before .match .keys2))
+returns-2 c = let a = c .before .before .args in c .ride .ensures ∙ sym (ap (λ (k : ℕ). getD (turns (a .player) (a .call)) k (setTurn (a .player) (a .call))) (c .before .match .keys2))
 
 returns-3 : tie.Need-returns-3
 unfolding played
-returns-3 c = let a = c .before .before .args in c .add .ensures ∙ sym (ap (λ (k : ℕ). getD (turns (a .player) (a .call)) k (extendTurn (a .player))) (c .before .match .keys3))
+returns-3 c = let a = c .before .before .args in c .add .ensures ∙ sym (ap (λ (k : ℕ). getD (turns (a .player) (a .call)) k (setTurn (a .player) (a .call))) (c .before .match .keys3))
 
 returns-4 : tie.Need-returns-4
 unfolding played
-returns-4 c = let a = c .before .before .args in c .skip .ensures ∙ sym (ap (λ (k : ℕ). getD (turns (a .player) (a .call)) k (extendTurn (a .player))) (c .before .match .keys4))
+returns-4 c = let a = c .before .before .args in c .skip .ensures ∙ sym (ap (λ (k : ℕ). getD (turns (a .player) (a .call)) k (setTurn (a .player) (a .call))) (c .before .match .keys4))
 
 returns-5 : tie.Need-returns-5
 unfolding played
-returns-5 c = let a = c .before .before .args in c .extend .ensures ∙ past (turns (a .player) (a .call)) (a .call .kind) (extendTurn (a .player)) (at-least 4 _ (c .before .match .rest))
+returns-5 c = let a = c .before .before .args in c .extend .ensures ∙ sym (ap (λ (k : ℕ). getD (turns (a .player) (a .call)) k (setTurn (a .player) (a .call))) (c .before .match .keys5))
+
+returns-6 : tie.Need-returns-6
+unfolding played
+returns-6 c = let a = c .before .before .args in c .set .ensures ∙ past (turns (a .player) (a .call)) (a .call .kind) (setTurn (a .player) (a .call)) (at-least 5 _ (c .before .match .rest))
 
 pub play-spec : {M : Type 1} → statement M
 play-spec =
@@ -52,8 +59,10 @@ play-spec =
     add-requires
     skip-requires
     extend-requires
+    set-requires
     returns
     returns-2
     returns-3
     returns-4
-    returns-5)
+    returns-5
+    returns-6)

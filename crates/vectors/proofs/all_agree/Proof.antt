@@ -19,8 +19,8 @@ abbrev μ-loop : tie.MeasureT-loop
 loop-holds : tie.Need-loop-holds Inv-loop μ-loop
 loop-holds c = (omega arith, agrees-start _ _ _ _ 0 true)
 
-question-word-requires : tie.Need-question-word-requires Inv-loop μ-loop
-question-word-requires c κs = search needs
+any-word-requires : tie.Need-any-word-requires Inv-loop μ-loop
+any-word-requires c κs = search needs
 
 word-at-requires : tie.Need-word-at-requires Inv-loop μ-loop
 word-at-requires c κs = search needs
@@ -34,7 +34,7 @@ loop-less c = omega arith
 loop-again : tie.Need-loop-again Inv-loop μ-loop
 loop-again c = let a = c .before .before .before .before .before .before .args in let at = c .before .before .before .loop in (
   omega arith,
-  rw (c .before .question-word .ensures, c .word-at .ensures)
+  rw (c .before .any-word .ensures, c .word-at .ensures)
       (agrees-next (a .question) (a .input .now) (a .answer .now) (a .words) (at .i) (at .same) (c .before .before .loop-test .taken) ∙ at .inv .1),
 )
 
@@ -48,7 +48,7 @@ all-agree-spec =
     Inv-loop
     μ-loop
     loop-holds
-    question-word-requires
+    any-word-requires
     word-at-requires
     add-i
     loop-less
