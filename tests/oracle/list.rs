@@ -1,15 +1,52 @@
-//! Writes the fixed list that crate `vectors` replays to the file given: each limit of each question, then random inputs of a
+//! Writes the fixed list that crate `vectors` replays to files `answers` and `players` of the folder given: each limit of each question, then random inputs of a
 //! fixed seed, with the Rust's answers. An entry is the question, the number of the input's bytes, the input, the number of the
-//! answer's words, and the words; the numbers and the words are 4 bytes each, little-endian.
+//! answer's words, and the words; the numbers and the words are 4 bytes each, little-endian. The last question is on the
+//! player: its input is the number of a workout file's bytes, the file, and a list of calls, and its answer `played::WORDS`
+//! words on the fresh player and after each call.
+use inputs::calls::{Play, limit_plays, random_play};
 use inputs::{Random, limit_inputs, random_input};
+use played::Met;
 use questions::{FILE, NAMES, answer, bytes_of};
 
 const SEED: u64 = 20;
 /// Random inputs of each question.
 const COUNT: usize = 120;
+/// The question on the player, how many random lists, and how many calls of each list.
+const PLAYER: usize = NAMES.len();
+const LISTS: usize = 100;
+const CALLS: usize = 11;
+
+fn entry(list: &mut Vec<u8>, question: usize, input: &[u8], answer: &[u32]) {
+    list.extend(bytes_of(&[question as u32, input.len() as u32]));
+    list.extend(input);
+    list.extend(bytes_of(&[answer.len() as u32]));
+    list.extend(bytes_of(answer));
+}
+
+/// Lists of calls.
+fn players() -> Vec<u8> {
+    let mut random = Random(SEED);
+    let (mut list, mut met) = (Vec::new(), Met::default());
+    let (mut lists, mut answers) = (0, 0);
+    let plays = limit_plays().into_iter().chain((0..LISTS).map(|_| random_play(&mut random)));
+    for Play { file, mut calls } in plays {
+        calls.truncate(CALLS);
+        let judged = played::answer(&file, &calls, &mut met);
+        let input = [bytes_of(&[file.len() as u32]), file, played::bytes_of(&calls)].concat();
+        entry(&mut list, PLAYER, &input, &judged);
+        lists += 1;
+        answers += calls.len();
+    }
+    println!("player: {lists} lists, {answers} answers after a call, {} bytes", list.len());
+    println!("events {:?}, lengths {:?}, targets {:?}", met.events, met.lengths, met.targets);
+    println!("failed ramps {}, refused {:?}", met.failed_ramps, met.refused);
+    let kinds = [&met.events[..], &met.lengths, &met.targets, &[met.failed_ramps]].concat();
+    assert!(answers >= 1_000 && !kinds.contains(&0), "every kind is to be in the list");
+    list
+}
 
 fn main() {
-    let path = std::env::args().nth(1).expect("the file to write");
+    let folder = std::path::PathBuf::from(std::env::args().nth(1).expect("the folder to write to"));
     let mut list = Vec::new();
     let mut met = [0; 10];
     for question in 0..NAMES.len() {
@@ -22,10 +59,7 @@ fn main() {
             if judged.is_empty() {
                 continue;
             }
-            list.extend(bytes_of(&[question as u32, input.len() as u32]));
-            list.extend(&input);
-            list.extend(bytes_of(&[judged.len() as u32]));
-            list.extend(bytes_of(&judged));
+            entry(&mut list, question, &input, &judged);
             if question == FILE {
                 met[judged[0] as usize] += 1;
             }
@@ -37,5 +71,6 @@ fn main() {
     println!("files accepted, then refused by 1 to 9: {met:?}");
     assert!(!met.contains(&0), "every refusal is to be in the list");
     println!("{} bytes", list.len());
-    std::fs::write(path, list).unwrap();
+    std::fs::write(folder.join("answers"), list).unwrap();
+    std::fs::write(folder.join("players"), players()).unwrap();
 }

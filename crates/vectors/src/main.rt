@@ -1,5 +1,5 @@
-// Replays a fixed list of the Rust's answers, data/answers, which tests/oracle/vectors makes, and writes for each question how
-// many answers were compared and how many differ.
+// Replays a fixed list of the Rust's answers, data/answers and data/players, which tests/oracle/vectors makes, and writes for
+// each question how many answers were compared and how many differ.
 ghost use mathlib.Core.Path.{_≡_};
 ghost use lib.ListN.{length};
 ghost use Prim.Native.Nat.{_+_, _*_, _≤_};
@@ -60,8 +60,7 @@ fn all_agree(question: u32, input: &[u8], answer: &[u8], words: u32) -> bool
     let mut same = true;
     let mut i = 0;
     while i < words {
-        same = same
-            & (compare_player::any_word(question, input, i) == compare::word_at(answer, i));
+        same = same & (compare_player::any_word(question, input, i) == compare::word_at(answer, i));
         i += 1;
     }
     same
@@ -163,7 +162,7 @@ fn main() {
         os::fail(path);
         return;
     }
-    let mut bytes = [0u8; 1048576];
+    let mut bytes = [0u8; 524288];
     let size = io::read_full(file, &mut bytes);
     libc::close(file);
     let list = &bytes[..size];
@@ -180,5 +179,14 @@ fn main() {
     report(10, b"order", list);
     report(11, b"file", list);
     report(12, b"written", list);
-    report(13, b"player", list);
+    let players = b"players";
+    let second = os::open_read(players);
+    if second < 0 {
+        os::fail(players);
+        return;
+    }
+    let mut more = [0u8; 524288];
+    let more_size = io::read_full(second, &mut more);
+    libc::close(second);
+    report(13, b"player", &more[..more_size]);
 }
