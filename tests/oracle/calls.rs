@@ -184,3 +184,11 @@ pub fn limit_plays() -> Vec<Play> {
         Play { file: free, calls: [repeated(add(DAY_MS, 1), 8), vec![skip]].concat() },
     ]
 }
+
+/// 10 s, 100 m and an open step, each played once, without targets or notes.
+pub fn fields_file() -> Vec<u8> {
+    let mut workout = WorkoutWords::plain(3, &[]);
+    workout.steps[1].length = [1, 100];
+    workout.steps[2].length = [2, 0];
+    files::without_notes(&workout)
+}

@@ -1,7 +1,10 @@
 //! The player on both sides: the Rust's, and the Rattle's of crate `compare_player` from a static library, on lists of calls at
-//! limits and on random ones. Words: how many calls at least, and the seed. Writes how many calls and words were compared and
-//! what was met. Fails where a word differs, and where a kind of call, event, length, target or refusal or a failed ramp wasn't
-//! met.
+//! limits and on random ones; and the Rattle's alone, of players that no list of calls reaches (`fields`). Words: how many calls
+//! at least, and the seed. Writes how many calls and words were compared and what was met. Fails where a word differs, where a
+//! kind of call, event, length, target or refusal or a failed ramp wasn't met, and where such a player isn't refused or played
+//! as document 01 has it.
+mod fields;
+
 use inputs::Random;
 use inputs::calls::{Play, limit_plays, random_play};
 use played::{Call, Met, WORDS, answer, bytes_of};
@@ -81,5 +84,11 @@ fn main() {
     if !missing.is_empty() {
         println!("not met: {missing:?}");
     }
-    std::process::exit((tally.different > 0 || !missing.is_empty()).into());
+    let tried = fields::try_fields(ours, count / 100, &mut random);
+    println!(
+        "players with fields set: {} stand and are played, {} refused 20, {} not as document 01 has it",
+        tried.played, tried.refused, tried.wrong
+    );
+    let fields_fail = tried.wrong > 0 || tried.played == 0 || tried.refused == 0;
+    std::process::exit((tally.different > 0 || !missing.is_empty() || fields_fail).into());
 }

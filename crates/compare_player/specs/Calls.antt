@@ -5,8 +5,6 @@ use mathlib.Core.List.{List, [], _∷_}
 use Prim.Native.Nat.{ℕ, zero, suc, _+_, _-_, _*_, _/_, _%_, min}
 use lib.Dec.{eqb, ltb, leb}
 use lib.ListN.{length, getD, replicate}
-use Rattle.le.specs.Le.{part, written}
-use Rattle.refusal.specs.Number.{answerNumber}
 use Rattle.compare.specs.Input.{wordAt, low16}
 use Rattle.compare_fields.specs.Fields.{setField}
 use Rattle.compare_files.specs.Files.{questionWord}
@@ -14,15 +12,18 @@ use Rattle.compare_reports.specs.Words.{reportedOf, seenWord}
 use Rattle.compare_reports.specs.declared.Given.{Given}
 use Rattle.decode.specs.Decode.{decodeOf}
 use Rattle.events.specs.Events.{Event, kindsOf, valuesOf}
-use Rattle.player.specs.Calls.{Called, readOf, rideOf, addOf, skipOf, extendOf}
-use Rattle.player.specs.declared.Extended.{Extended}
-use Rattle.player.specs.declared.Update.{Update}
-use Rattle.readings.specs.declared.ReadingOption.{ReadingOption}
+use Rattle.le.specs.Le.{part, written}
+use Rattle.player.specs.Calls.{readOf, rideOf, addOf, skipOf, extendOf}
 use Rattle.readings.specs.declared.ReadingOption.the-variants.{None, Some}
+use Rattle.readings.specs.declared.ReadingOption.{ReadingOption}
 use Rattle.readings.specs.declared.Sample.{Sample}
+use Rattle.refusal.specs.Number.{answerNumber}
 use Rattle.start.specs.Start.{newOf}
 use Rattle.start.specs.declared.NewPlayer.{NewPlayer}
 use Rattle.state.specs.declared.Player.{Player}
+use Rattle.updates.specs.Updates.{Called}
+use Rattle.updates.specs.declared.Extended.{Extended}
+use Rattle.updates.specs.declared.Update.{Update}
 use Rattle.compare_player.specs.declared.Call.{Call}
 use Rattle.compare_player.specs.declared.Seen.{Seen}
 use Rattle.compare_player.specs.declared.Turn.{Turn}
