@@ -46,8 +46,8 @@ module _ (w : Workout) (p : TrainingProfile) (T : Taken w) (ok : profileOk p ≡
       let A : RunIs w p T ok [] (cutRun w p l) (callsAsk w p l begun) (afterCalls w p l begun) = after-list l h in
       record {
         bytes =
-            λ journal id began dated.
-            ap₂ (λ (v : Workout) (s : Summary). recordBytes (recordOf (v .name) (v .test) s journal id began dated)) (A .after .same .workout) (summary-is l h);
+            λ journal id start dated.
+            ap₂ (λ (v : Workout) (s : Summary). recordBytes (recordOf (v .name) (v .test) s journal id start dated)) (A .after .same .workout) (summary-is l h);
         events = sym (A .after .same .alike .matches .events);
         answers = A .answers;
       }

@@ -11,3 +11,4 @@ pub mod Calls
 pub mod Lists
 pub mod Unrefused
 pub mod Demand
+pub mod Samples

@@ -2,3 +2,4 @@ pub mod Machine
 pub mod Cutting
 pub mod Runs
 pub mod ThirdDemand
+pub mod Samples

@@ -57,12 +57,12 @@ pub record Taken (w : Workout) : Type 0 where
 -- "The stored record is what the record writer gives for the player": the bytes of the workout's name and test, the player's summary, and
 -- journal, id, start and whether it is dated.
 abbrev pub playerRecord : Player → ℕ → ℕ → ℕ → Bool → List ℕ
-playerRecord player journal id began dated =
-    recordBytes (recordOf (player .workout .name) (player .workout .test) (player .core .summary) journal id began dated)
+playerRecord player journal id start dated =
+    recordBytes (recordOf (player .workout .name) (player .workout .test) (player .core .summary) journal id start dated)
 
 -- "Its record is the writer's, of these fields, the workout's name, test and played length, and the journal, id and start handed in."
 abbrev pub machineRecord : Workout → Machine → ℕ → ℕ → ℕ → Bool → List ℕ
-machineRecord w m journal id began dated = recordBytes (recordOf (w .name) (w .test) (summaryOf w m) journal id began dated)
+machineRecord w m journal id start dated = recordBytes (recordOf (w .name) (w .test) (summaryOf w m) journal id start dated)
 
 -- "those of kinds 1 to 3"
 abbrev pub isCompared : Event → Bool
@@ -83,8 +83,8 @@ uncutRun w p l = run p (uncut l) (newOf w .player)
 pub record After (w : Workout) (p : TrainingProfile) (l : List CutCall) : Type 0 where
   -- "the stored record is byte for byte that of document 01's millisecond machine, fed the uncut list", "with whatever journal, id
   -- and start"
-  pub bytes : (journal id began : ℕ) (dated : Bool)
-      → playerRecord (cutRun w p l .player) journal id began dated ≡ machineRecord w (afterCalls w p l begun .machine) journal id began dated
+  pub bytes : (journal id start : ℕ) (dated : Bool)
+      → playerRecord (cutRun w p l .player) journal id start dated ≡ machineRecord w (afterCalls w p l begun .machine) journal id start dated
   -- "The started, finished and FTP events given so far are exactly that machine's, in order."
   pub events : compared (cutRun w p l .events) ≡ afterCalls w p l begun .machine .events
   -- What is refused as the cut list runs is what the machine's own questions refuse, call by call.

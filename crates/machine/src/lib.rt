@@ -1,6 +1,7 @@
 // Document 01, 'The millisecond machine', and the third demand. The crate has statements; its functions compute nothing.
 ghost use Prim.Native.Nat.{_<_};
 ghost use Rattle.readings.specs.Readings.{orZero};
+ghost use Rattle.machine.specs.Samples.{Samples};
 ghost use Rattle.machine.specs.ThirdDemand.{ThirdDemand, PiecesAtOnce, RefusedStays, SecondsEitherWay};
 use readings::ReadingOption;
 
@@ -22,6 +23,11 @@ pub fn refused_stays()
 // The best minute is the same with the newest second first or last.
 pub fn seconds_either_way()
     ensures { λ _. ⌜ SecondsEitherWay ⌝ }
+{}
+
+// What the machine makes of some rides.
+pub fn sample_rides()
+    ensures { λ _. ⌜ Samples ⌝ }
 {}
 
 // Every reading in memory has the 16 bits that the third demand supposes of it. (`codec::workout_fits` has a workout's twelve places.)
