@@ -74,6 +74,10 @@ module _ (w : Workout) (p : TrainingProfile) (T : Taken w) (ok : profileOk p ≡
     abbrev x : Riding
     x = riding (q .core) (q .minute)
 
+    -- question 14 wants as many places of both
+    places-are : (kinds values : ℕ) → player.placesOk (q .core) kinds values ≡ placesOk w m kinds values
+    places-are kinds values = refl
+
     -- Read.
 
     cadence-is : (r : ReadingOption) → cadenceIn r ≡ cadenceOk r
@@ -131,7 +135,9 @@ module _ (w : Workout) (p : TrainingProfile) (T : Taken w) (ok : profileOk p ≡
 
     skip-answer : (kinds values : ℕ) → skipAnswer q kinds values ≡ skipAsks w kinds values s
     unfolding skipAnswer
-    skip-answer kinds values = ask-passes (standingOf q) refusals.Standing (ask (player.placesOk (q .core) kinds values) refusals.EventPlaces Accepted) st
+    skip-answer kinds values =
+        ask-passes (standingOf q) refusals.Standing (ask (player.placesOk (q .core) kinds values) refusals.EventPlaces Accepted) st
+        ∙ ap (λ (b : Bool). ask b refusals.EventPlaces Accepted) (places-are kinds values)
 
     skip-by : (o : Option Step) → stepAt w (m .position) ≡ o → Goes w k (skipNow q) Accepted (record { machine = skipped w o m; totals = s .totals })
     unfolding skipNow skipped
@@ -241,10 +247,11 @@ module _ (w : Workout) (p : TrainingProfile) (T : Taken w) (ok : profileOk p ≡
     unfolding rideAnswer pieceAsks updateAnswer
     ride-answer kinds values e =
         let M = R .alike .matches in
-        let places : Answer = ask (placesOk w m kinds values) refusals.EventPlaces Accepted in
+        let totals : ℕ → ℕ → Bool = λ a b. leb (a + e .ms) 604800000 && leb (b + e .mm) 7000000000 in
         ask-passes (standingOf q) refusals.Standing (ask (profileOk p) refusals.Profile (updateAnswer (q .core) (e .ms) (e .mm) kinds values)) st
         ∙ ask-passes (profileOk p) refusals.Profile (updateAnswer (q .core) (e .ms) (e .mm) kinds values) ok
-        ∙ ap₂ (λ (a b : ℕ). ask (pieceOk e) refusals.Update (ask (leb (a + e .ms) 604800000 && leb (b + e .mm) 7000000000) refusals.Totals places)) (M .total-ms) (M .total-mm)
+        ∙ ap₂ (λ (t b : Bool). ask (pieceOk e) refusals.Update (ask t refusals.Totals (ask b refusals.EventPlaces Accepted)))
+        (ap₂ totals (M .total-ms) (M .total-mm)) (places-are kinds values)
 
     totalled-now : (ms mm : ℕ) (o : Option Step) → Now o (q .core) m → Now o (totalled ms mm (q .core)) m
     totalled-now ms mm none n = n
