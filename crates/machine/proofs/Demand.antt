@@ -15,13 +15,13 @@ use Rattle.standing.specs.Standing.{standingOf}
 use Rattle.start.specs.Start.{newOf}
 use Rattle.history.specs.Record.{recordOf, recordBytes}
 use Rattle.machine.specs.Machine.{Machine, summaryOf}
-use Rattle.machine.specs.Cutting.{Call, CutCall, cut, uncut, AllWellCut}
+use Rattle.machine.specs.Cutting.{Call, CutCall, cut, uncut, AllWellCut, alone}
 use Rattle.machine.specs.Runs.{Run, run, Progress, begun, afterCalls, callsAsk}
 use Rattle.machine.specs.ThirdDemand.{Taken, compared, cutRun, uncutRun, AllAccepted, Claim, ThirdDemand}
 use Rattle.machine.specs.ThirdDemand as demand
 use Rattle.machine.proofs.Lists.{RunIs, After, list-is, new-after}
 use Rattle.machine.proofs.Lists as lists
-use Rattle.machine.proofs.Unrefused.{whole, whole-is, whole-well, list-unrefused}
+use Rattle.machine.proofs.Unrefused.{alone-is, uncut-well, list-unrefused}
 
 well-take : (n : ℕ) (l : List CutCall) → AllWellCut l → AllWellCut (take n l)
 well-take zero l h = tt
@@ -36,6 +36,11 @@ module _ (w : Workout) (p : TrainingProfile) (T : Taken w) (ok : profileOk p ≡
   -- player and machine summaries are equal after every cut list
   pub summary-is : (l : List CutCall) → AllWellCut l → cutRun w p l .player .core .summary ≡ summaryOf w (afterCalls w p l begun .machine)
   summary-is l h = lists.summary-is w p T ok _ (cutRun w p l .player) (afterCalls w p l begun) (after-list l h .after)
+
+  -- and after every list as it stands: what a replay makes of its acts
+  pub summary-alone : (cs : List Call) → AllWellCut (alone cs) → run p cs (newOf w .player) .player .core .summary ≡ summaryOf w (afterCalls w p (alone cs) begun .machine)
+  summary-alone cs h =
+      ap (λ (xs : List Call). run p xs (newOf w .player) .player .core .summary) (sym (alone-is cs)) ∙ summary-is (alone cs) h
 
   -- the player after every cut list stands
   pub stands-after : (l : List CutCall) → AllWellCut l → standingOf (cutRun w p l .player) ≡ true
@@ -54,8 +59,8 @@ module _ (w : Workout) (p : TrainingProfile) (T : Taken w) (ok : profileOk p ≡
 
   unrefused : (l : List CutCall) → AllWellCut l → AllAccepted (uncutRun w p l .answers) → AllAccepted (cutRun w p l .answers)
   unrefused l h a =
-      let uncut-answers : uncutRun w p l .answers ≡ callsAsk w p (whole l) begun =
-      ap (λ (cs : List Call). run p cs (newOf w .player) .answers) (sym (whole-is l)) ∙ after-list (whole l) (whole-well l h) .answers in
+      let uncut-answers : uncutRun w p l .answers ≡ callsAsk w p (alone (uncut l)) begun =
+      ap (λ (cs : List Call). run p cs (newOf w .player) .answers) (sym (alone-is (uncut l))) ∙ after-list (alone (uncut l)) (uncut-well l h) .answers in
       subst AllAccepted (sym (after-list l h .answers))
       (list-unrefused w p l begun begun h refl (record { ms = omega arith; mm = omega arith }) (subst AllAccepted uncut-answers a))
 

@@ -21,22 +21,12 @@ use Rattle.zones.specs.declared.TrainingProfile.{TrainingProfile}
 use Rattle.model.specs.declared.Workout.{Workout}
 use Rattle.readings.specs.declared.Sample.{Sample}
 use Rattle.machine.specs.Machine.{Machine, stepAt, reading, withExtra, extraAfter, skipped, milliseconds}
-use Rattle.machine.specs.Cutting.{Call, read, ride, skip, extend, Piece, CutCall, callsOf, uncut, cut, sumMs, sumMm, Cuts, WellCut, AllWellCut}
+use Rattle.machine.specs.Cutting.{Call, read, ride, skip, extend, Piece, CutCall, callsOf, uncut, cut, sumMs, sumMm, Cuts, WellCut, AllWellCut, own, alone}
 use Rattle.machine.specs.Runs.{Totals, Progress, readAsks, pieceOk, totalsOk, placesOk, pieceAsks, skipAsks, extraAsks, extraNext, extendAsks, unlessRefused, withPiece, afterPiece, afterPieces, afterCall, piecesAsk, callAsks, callsAsk}
 use Rattle.machine.specs.ThirdDemand.{AllAccepted}
 use Rattle.machine.proofs.AtOnce.{milliseconds-add}
 
--- The uncut list as a cut one: each ride is its own one piece.
-
-unfoldable pub own : Call → List Piece
-own (read sample) = []
-own (ride ms mm kinds values) = record { ms = ms; mm = mm } ∷ []
-own (skip kinds values) = []
-own extend = []
-
-unfoldable pub whole : List CutCall → List CutCall
-whole [] = []
-whole (c ∷ l) = record { call = c .call; pieces = own (c .call) } ∷ whole l
+-- A list as it stands.
 
 own-calls : (c : Call) (cs : List Call) → callsOf c (own c) ++ cs ≡ c ∷ cs
 unfolding callsOf own
@@ -45,10 +35,10 @@ own-calls (ride ms mm kinds values) cs = refl
 own-calls (skip kinds values) cs = refl
 own-calls extend cs = refl
 
-pub whole-is : (l : List CutCall) → cut (whole l) ≡ uncut l
-unfolding cut uncut whole
-whole-is [] = refl
-whole-is (c ∷ l) = own-calls (c .call) (cut (whole l)) ∙ ap (λ (cs : List Call). c .call ∷ cs) (whole-is l)
+pub alone-is : (cs : List Call) → cut (alone cs) ≡ cs
+unfolding cut alone
+alone-is [] = refl
+alone-is (c ∷ cs) = own-calls c (cut (alone cs)) ∙ ap (λ (rest : List Call). c ∷ rest) (alone-is cs)
 
 own-well : (c : Call) (es : List Piece) → WellCut c es → WellCut c (own c)
 unfolding own sumMs sumMm
@@ -57,10 +47,10 @@ own-well (ride ms mm kinds values) es h = record { some = omega arith; ms-sum = 
 own-well (skip kinds values) es h = tt
 own-well extend es h = tt
 
-pub whole-well : (l : List CutCall) → AllWellCut l → AllWellCut (whole l)
-unfolding whole
-whole-well [] h = tt
-whole-well (c ∷ l) h = (own-well (c .call) (c .pieces) (h .0), whole-well l (h .1))
+pub uncut-well : (l : List CutCall) → AllWellCut l → AllWellCut (alone (uncut l))
+unfolding alone uncut
+uncut-well [] h = tt
+uncut-well (c ∷ l) h = (own-well (c .call) (c .pieces) (h .0), uncut-well l (h .1))
 
 -- Lists of answers.
 
@@ -264,13 +254,13 @@ module _ (w : Workout) (p : TrainingProfile) where
   call-beside extend es f g h e t a = extend-beside es f g e t a
 
   pub list-unrefused : (l : List CutCall) (f g : Progress) → AllWellCut l → g .machine ≡ f .machine → AtMost (g .totals) (f .totals)
-      → AllAccepted (callsAsk w p (whole l) f) → AllAccepted (callsAsk w p l g)
-  unfolding callsAsk whole
+      → AllAccepted (callsAsk w p (alone (uncut l)) f) → AllAccepted (callsAsk w p l g)
+  unfolding callsAsk alone uncut
   list-unrefused [] f g h e t a = tt
   list-unrefused (c ∷ l) f g h e t a =
       let c' : Call = c .call in
       let f' : Progress = afterCall w p c' (own c') f in
       let g' : Progress = afterCall w p c' (c .pieces) g in
-      let B : Beside c' (c .pieces) f g = call-beside c' (c .pieces) f g (h .0) e t (accepted-left (callAsks w p c' (own c') f) (callsAsk w p (whole l) f') a) in
+      let B : Beside c' (c .pieces) f g = call-beside c' (c .pieces) f g (h .0) e t (accepted-left (callAsks w p c' (own c') f) (callsAsk w p (alone (uncut l)) f') a) in
       accepted-append (callAsks w p c' (c .pieces) g) (callsAsk w p l g') (B .answers)
-      (list-unrefused l f' g' (h .1) (B .machine) (B .totals) (accepted-right (callAsks w p c' (own c') f) (callsAsk w p (whole l) f') a))
+      (list-unrefused l f' g' (h .1) (B .machine) (B .totals) (accepted-right (callAsks w p c' (own c') f) (callsAsk w p (alone (uncut l)) f') a))

@@ -68,3 +68,15 @@ WellCut extend qs = Unit
 abbrev pub AllWellCut : List CutCall → Type 0
 AllWellCut [] = Unit
 AllWellCut (c ∷ l) = WellCut (c .call) (c .pieces) × AllWellCut l
+
+-- A list as it stands: each ride is its own one piece.
+
+unfoldable pub own : Call → List Piece
+own (read sample) = []
+own (ride ms mm kinds values) = record { ms = ms; mm = mm } ∷ []
+own (skip kinds values) = []
+own extend = []
+
+unfoldable pub alone : List Call → List CutCall
+alone [] = []
+alone (c ∷ cs) = record { call = c; pieces = own c } ∷ alone cs
