@@ -53,6 +53,11 @@ abbrev pub rideIn : ℕ → ℕ → ℕ → CutCall
 rideIn ms first second =
     record { call = ride ms 0 193 193; pieces = record { ms = first; mm = 0 } ∷ record { ms = second; mm = 0 } ∷ [] }
 
+-- A ride whose first piece, of 300 ms, has more way than question 12 lets pass.
+abbrev pub tooFar : CutCall
+tooFar =
+    record { call = ride 800 1000000001 193 193; pieces = record { ms = 300; mm = 1000000001 } ∷ record { ms = 500; mm = 0 } ∷ [] }
+
 abbrev pub other : Call → CutCall
 other call = record { call = call; pieces = [] }
 
@@ -88,7 +93,7 @@ pub record Samples : Type 0 where
   pub marked : after (pair tests.Twenty) (readWatts 53 ∷ rideIn 2000 1000 900 ∷ other (skip 193 193) ∷ []) .skipped ≡ 1
   -- 60 s more
   pub longer : after single (other extend ∷ rideIn 3000 1500 1500 ∷ []) .time ≡ 3000
-  -- a piece of more than a day is refused 12, a skip without places 14
-  pub refused : callsAsk single profile (rideIn 86400501 86400001 500 ∷ other (skip 193 192) ∷ []) begun
+  -- a piece is refused 12, a skip without places 14, and neither does anything
+  pub refused : callsAsk single profile (tooFar ∷ other (skip 193 192) ∷ []) begun
       ≡ Refused refusals.Update ∷ Accepted ∷ Refused refusals.EventPlaces ∷ []
-  pub ridden : after single (rideIn 86400501 86400001 500 ∷ other (skip 193 192) ∷ []) .time ≡ 500
+  pub ridden : after single (tooFar ∷ other (skip 193 192) ∷ []) .time ≡ 500
