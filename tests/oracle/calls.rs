@@ -144,7 +144,8 @@ fn repeated(call: Call, count: usize) -> Vec<Call> {
 }
 
 /// Lists at limits: touches up to question 15 and past it, of time and of way; totals up to question 13 and past it; the most
-/// events of one update; a ramp test that is ridden to its best minute and failed.
+/// events of one update; a ramp test that is ridden to its best minute and failed; two lines of the bench sheet: 1 ms with
+/// 500,000 mm in a step of 100 m, and 59,999 ms of a ramp test.
 pub fn limit_plays() -> Vec<Play> {
     let base = Call { ftp: 250, lthr: 160, power: 1 + 300, heart: 1 + 140, cadence: 1 + 900, ..Call::default() };
     let touch = Call { kind: EXTEND, ..base };
@@ -168,6 +169,8 @@ pub fn limit_plays() -> Vec<Play> {
     let weak = Call { power: 1 + 20, ..read };
     vec![
         Play { file: timed.clone(), calls: [repeated(touch, 1_442), vec![skip], repeated(touch, 2)].concat() },
+        Play { file: distance.clone(), calls: vec![ride(1, 500_000)] },
+        Play { file: tests.clone(), calls: vec![read, ride(59_999, 0), ride(1, 0)] },
         Play { file: distance, calls: [repeated(touch, 2_002), vec![ride(1_000, 5_000_000), skip, touch]].concat() },
         Play { file: timed, calls: [vec![read], repeated(ride(DAY_MS, 1_000_000_000), 8), vec![ride(0, 0)]].concat() },
         Play {
