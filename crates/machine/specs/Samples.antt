@@ -89,8 +89,8 @@ pub record Samples : Type 0 where
   pub tested : after (pair tests.Twenty) (readWatts 53 ∷ rideIn 4000 2500 1500 ∷ []) .events ≡ ftp 50 ∷ started 1 ∷ ftp 50 ∷ finished ∷ []
   pub below : after (pair tests.Twenty) (readWatts 52 ∷ rideIn 4000 2500 1500 ∷ []) .events ≡ started 1 ∷ finished ∷ []
   -- a skipped step is marked, and gives no `Twenty` result
-  pub skips : after (pair tests.Twenty) (readWatts 53 ∷ rideIn 2000 1000 900 ∷ other (skip 193 193) ∷ []) .events ≡ started 1 ∷ []
-  pub marked : after (pair tests.Twenty) (readWatts 53 ∷ rideIn 2000 1000 900 ∷ other (skip 193 193) ∷ []) .skipped ≡ 1
+  pub skips : after (pair tests.Twenty) (readWatts 53 ∷ rideIn 1900 1000 900 ∷ other (skip 193 193) ∷ []) .events ≡ started 1 ∷ []
+  pub marked : after (pair tests.Twenty) (readWatts 53 ∷ rideIn 1900 1000 900 ∷ other (skip 193 193) ∷ []) .skipped ≡ 1
   -- 60 s more
   pub longer : after single (other extend ∷ rideIn 3000 1500 1500 ∷ []) .time ≡ 3000
   -- a piece is refused 12, a skip without places 14, and neither does anything
