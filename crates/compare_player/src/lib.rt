@@ -49,7 +49,7 @@ pub struct Seen {
 }
 
 // One event more in a check word.
-fn mix(check: u64, kind: u8, value: u16) -> u64
+pub fn mix(check: u64, kind: u8, value: u16) -> u64
     requires { ⌜ check < 1000000007 ⌝ }
     ensures { λ r. ⌜ (r ≡ mixed check kind value) × (r < 1000000007) ⌝ }
 {
@@ -71,7 +71,7 @@ fn check_of(kinds: &[u8; 193], values: &[u16; 193], events: usize) -> u32
 }
 
 // Kind, FTP, LTHR, ms, mm, power, heart, cadence.
-fn call_at(calls: &[u8], k: u32) -> Call
+pub fn call_at(calls: &[u8], k: u32) -> Call
     requires { ⌜ k ≤ 12500 ⌝ }
     ensures { λ r. ⌜ r ≡ callAt (now (calls .entry)) k ⌝ }
 {
@@ -100,7 +100,7 @@ fn reading_from(word: u32) -> ReadingOption
     ReadingOption::Some(((word - 1) % 65536) as u16)
 }
 
-fn sample_of(call: Call) -> Sample
+pub fn sample_of(call: Call) -> Sample
     ensures { λ r. ⌜ r ≡ sampleOf call ⌝ }
 {
     Sample {
@@ -111,7 +111,7 @@ fn sample_of(call: Call) -> Sample
 }
 
 // What an update gave, with the check word of its events.
-fn turn_of(update: Update, check: u32) -> Turn
+pub fn turn_of(update: Update, check: u32) -> Turn
     ensures { λ r. ⌜ r ≡ turnOf update check ⌝ }
 {
     let answer = update.answer;
@@ -128,7 +128,7 @@ fn turn_of(update: Update, check: u32) -> Turn
     }
 }
 
-fn read(player: Player, call: Call) -> Turn
+pub fn read(player: Player, call: Call) -> Turn
     ensures { λ r. ⌜ r ≡ readTurn player call ⌝ }
 {
     turn_of(player::read(player, sample_of(call)), 7)
@@ -168,7 +168,7 @@ fn skip(player: Player) -> Turn
     turn_of(update, check_of(&kinds, &values, update.events))
 }
 
-fn extend(player: Player) -> Turn
+pub fn extend(player: Player) -> Turn
     ensures { λ r. ⌜ r ≡ extendTurn player ⌝ }
 {
     let touched = player::extend(player);
@@ -220,7 +220,7 @@ fn play(player: Player, call: Call) -> Turn
     }
 }
 
-fn look(turn: Turn, call: Call) -> Seen
+pub fn look(turn: Turn, call: Call) -> Seen
     ensures { λ r. ⌜ r ≡ lookedAt turn call ⌝ }
 {
     let player = turn.player;
@@ -235,7 +235,7 @@ fn look(turn: Turn, call: Call) -> Seen
 }
 
 // The fresh player of a workout file.
-fn begin(file: &[u8], calls: &[u8]) -> Seen
+pub fn begin(file: &[u8], calls: &[u8]) -> Seen
     ensures { λ r. ⌜ r ≡ begun (now (file .entry)) (now (calls .entry)) ⌝ }
 {
     let read = decode(file);

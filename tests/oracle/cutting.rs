@@ -1,0 +1,387 @@
+//! Lists of calls whose rides are cut at random: the Rattle's player of crate `compare_cut`, from a static library, against
+//! document 01's millisecond machine (machine.rs), call by call of the cut list for refusals, and after each call of the uncut
+//! list for the record's fields and the started, finished and FTP events given so far; and, where nothing is refused, the
+//! Rust's player on the cut list. Words: how many lists, and the seed. Fails on a difference, and where a refusal or a kind of
+//! event wasn't met.
+mod machine;
+
+use inputs::Random;
+use machine::{Event, Machine, Piece};
+use vana::ride::{log::Sample, zones::TrainingProfile};
+use vana::workout::model::{Block, Intensity, Length, Step, Target, Test, Workout};
+use vana::workout::{codec, player};
+
+#[link(name = "compare_cut", kind = "static")]
+unsafe extern "C" {
+    /// `WORDS` words on the fresh player, then as many after each call. A slice goes as its pointer and its length.
+    safe fn compare_cut(
+        file: *const u8,
+        file_length: usize,
+        calls: *const u8,
+        calls_length: usize,
+        answer: *mut u32,
+        places: usize,
+    );
+}
+
+/// Refusal (of `new` at first), the check word of the events of kinds 1 to 3 so far, then the summary: targeted, in, under, over,
+/// FTP, steps done, steps, skipped, finished.
+const WORDS: usize = 11;
+const NO_EVENTS: u32 = 7;
+
+#[derive(Clone, Debug)]
+enum Call {
+    Read(Sample),
+    Ride(Vec<(u64, u64)>, [u32; 2]),
+    Skip([u32; 2]),
+    Extend,
+}
+
+fn reading(value: Option<u16>) -> u32 {
+    value.map_or(0, |value| 1 + u32::from(value))
+}
+
+/// Eight words to a call: kind (0 read, 1 ride, 3 skip, 4 extend), FTP, LTHR, ms, mm, and then power, heart and cadence of a
+/// read, the places of kinds and of values of a ride or a skip.
+fn words_of(call: &Call, profile: &TrainingProfile) -> Vec<[u32; 8]> {
+    let head = |kind| [kind, profile.ftp_watts.into(), profile.lthr_bpm.into()];
+    let words = |[kind, ftp, lthr]: [u32; 3], [ms, mm]: [u64; 2], rest: [u32; 3]| {
+        [kind, ftp, lthr, ms as u32, mm as u32, rest[0], rest[1], rest[2]]
+    };
+    match call {
+        Call::Read(sample) => {
+            let rest = [sample.power_watts, sample.heart_bpm, sample.cadence_tenths].map(reading);
+            vec![words(head(0), [0, 0], rest)]
+        }
+        Call::Ride(pieces, [kinds, values]) => {
+            pieces.iter().map(|&(ms, mm)| words(head(1), [ms, mm], [*kinds, *values, 0])).collect()
+        }
+        Call::Skip([kinds, values]) => vec![words(head(3), [0, 0], [*kinds, *values, 0])],
+        Call::Extend => vec![words(head(4), [0, 0], [0; 3])],
+    }
+}
+
+fn ours(file: &[u8], calls: &[[u32; 8]]) -> Vec<Vec<u32>> {
+    let list: Vec<u8> = calls.iter().flatten().flat_map(|word| word.to_le_bytes()).collect();
+    let mut answer = vec![0; WORDS * (calls.len() + 1)];
+    compare_cut(file.as_ptr(), file.len(), list.as_ptr(), list.len(), answer.as_mut_ptr(), answer.len());
+    answer.chunks(WORDS).map(<[u32]>::to_vec).collect()
+}
+
+fn check_word(events: &[Event]) -> u32 {
+    events.iter().fold(NO_EVENTS, |check, &(kind, value)| {
+        ((u64::from(check) * 31 + u64::from(kind) * 65_536 + u64::from(value) + 1) % 1_000_000_007) as u32
+    })
+}
+
+/// The words after a call but for the refusal.
+fn machine_words(m: &Machine) -> [u32; WORDS - 1] {
+    [
+        check_word(&m.events),
+        m.targeted as u32,
+        m.inside as u32,
+        m.under as u32,
+        m.over as u32,
+        m.ftp.map_or(0, |watts| 1 + watts as u32),
+        m.position as u32,
+        m.steps() as u32,
+        m.skipped,
+        m.finished().into(),
+    ]
+}
+
+fn rust_words(player: &player::Player, events: &[Event]) -> [u32; WORDS - 1] {
+    let s = player.summary();
+    [
+        check_word(events),
+        s.targeted_ms as u32,
+        s.in_ms as u32,
+        s.under_ms as u32,
+        s.over_ms as u32,
+        reading(s.ftp),
+        s.steps_done.into(),
+        s.steps.into(),
+        s.skipped.into(),
+        s.finished.into(),
+    ]
+}
+
+fn step(random: &mut Random) -> Step {
+    let intensity = if random.below(2) == 0 { Intensity::Test } else { Intensity::ALL[random.below(5) as usize] };
+    let length = match random.below(6) {
+        0 => Length::Open,
+        1 => Length::Time([1, 2, 3, 60, 61, 120][random.below(6) as usize]),
+        _ => Length::Time(1 + random.below(90) as u16),
+    };
+    let low = random.below(60);
+    let target = match random.below(6) {
+        0 => Target::Free,
+        1 => Target::Ftp { low: 40 + low as u8, high: 101 + low as u8 },
+        2 => Target::Watts { low: 60 + low as u16, high: 150 + low as u16 },
+        3 => Target::HeartZone(1 + random.below(5) as u8),
+        4 => Target::Lthr { low: 40 + low as u8, high: 101 + low as u8 },
+        _ => Target::Cadence { low: 40 + low as u8, high: 101 + low as u8 },
+    };
+    Step::new(intensity, length, target)
+}
+
+fn workout(random: &mut Random) -> Workout {
+    let count = 1 + random.below(6);
+    let steps: Vec<Step> = (0..count).map(|_| step(random)).collect();
+    let first = random.below(count);
+    let block =
+        Block { first: first as u8, len: (1 + random.below(count - first)) as u8, count: 1 + random.below(6) as u8 };
+    let blocks = if random.below(2) == 0 { vec![block] } else { vec![] };
+    let mut workout = Workout::new("CUT", &steps, &blocks, None);
+    workout.test = [None, Some(Test::Twenty), Some(Test::Ramp)][random.below(3) as usize];
+    assert!(workout.validate().is_ok());
+    workout
+}
+
+fn sample(random: &mut Random, base: u32) -> Sample {
+    let some = |random: &mut Random, value: u32| match random.below(9) {
+        0 => None,
+        1 => Some([0, 1, 65_530, 65_531, 65_535][random.below(5) as usize]),
+        _ => Some(value as u16),
+    };
+    let (power, heart, cadence) = (base + random.below(60), 80 + random.below(110), 400 + random.below(800));
+    Sample { power_watts: some(random, power), heart_bpm: some(random, heart), cadence_tenths: some(random, cadence) }
+}
+
+/// Numbers of one sum: some of them 0, and in no order.
+fn parts(random: &mut Random, total: u64, count: usize) -> Vec<u64> {
+    let mut cuts: Vec<u64> = (1..count)
+        .map(|_| if random.below(4) == 0 { 0 } else { u64::from(random.below(1_000_001)) * total / 1_000_000 })
+        .collect();
+    cuts.sort_unstable();
+    cuts.insert(0, 0);
+    cuts.push(total);
+    cuts.windows(2).map(|pair| pair[1] - pair[0]).collect()
+}
+
+fn places(random: &mut Random) -> [u32; 2] {
+    match random.below(24) {
+        0 => [192, 193],
+        1 => [193, 0],
+        2 => [200, 193],
+        _ => [193, 193],
+    }
+}
+
+/// Far rides come to question 13 soon.
+fn ride(random: &mut Random, far: bool) -> Call {
+    // hours are few: the machine goes through each of their milliseconds
+    let ms = match random.below(2_000) {
+        0 => u64::from(random.below(3)) * 50_000_000,
+        1 => 86_400_000 + u64::from(random.below(3)),
+        2 => 604_800_000,
+        x if x < 1_000 => u64::from(random.below(3_000)),
+        x if x < 1_800 => u64::from(random.below(90_000)),
+        _ => u64::from(random.below(300_000)),
+    };
+    let mm = match random.below(12) {
+        0 => 0,
+        1 => 1_000_000_000,
+        2 => 1_500_000_000,
+        3 => 4_000_000_000,
+        _ => ms * u64::from(random.below(12)),
+    };
+    let mm = mm.min(4_294_967_295);
+    let count = 1 + random.below(5) as usize;
+    let ways = if far { vec![900_000_000; count] } else { parts(random, mm, count) };
+    let pieces = parts(random, ms, count).into_iter().zip(ways).collect();
+    Call::Ride(pieces, places(random))
+}
+
+fn list(random: &mut Random) -> Vec<Call> {
+    let base = 20 + random.below(500);
+    let (tame, far) = (random.below(3) == 0, random.below(6) == 0);
+    (0..1 + random.below(14))
+        .map(|_| match random.below(10) {
+            0 => Call::Skip(if tame { [193, 193] } else { places(random) }),
+            1 => Call::Extend,
+            2..5 => Call::Read(loop {
+                let sample = sample(random, base);
+                if !tame || sample.cadence_tenths.is_none_or(|tenths| tenths <= 65_530) {
+                    break sample;
+                }
+            }),
+            _ => match ride(random, far) {
+                Call::Ride(pieces, _) if tame => {
+                    Call::Ride(pieces.into_iter().map(|(ms, mm)| (ms % 90_000, mm % 1_000_000)).collect(), [193, 193])
+                }
+                ride => ride,
+            },
+        })
+        .collect()
+}
+
+/// Touches up to question 15 and past it.
+fn touches() -> Vec<Call> {
+    vec![Call::Extend; 1_442]
+}
+
+/// Any workout skipped to its end, and then days up to question 13 and past it.
+fn days() -> Vec<Call> {
+    let mut calls = vec![Call::Skip([193, 193]); 36];
+    calls.extend(vec![Call::Ride(vec![(43_200_000, 0), (43_200_000, 0)], [193, 193]); 8]);
+    calls
+}
+
+/// What each call of the cut list is refused by, a list to a call of the uncut one.
+fn feed(machine: &mut Machine, call: &Call) -> Vec<u32> {
+    match call {
+        Call::Read(sample) => vec![machine.read(*sample)],
+        Call::Ride(pieces, places) => pieces.iter().map(|&(ms, mm)| machine.ride(Piece { ms, mm }, *places)).collect(),
+        Call::Skip(places) => vec![machine.skip(*places)],
+        Call::Extend => vec![machine.extend()],
+    }
+}
+
+fn compared(events: impl IntoIterator<Item = player::Event>) -> impl Iterator<Item = Event> {
+    events.into_iter().filter_map(|event| match event {
+        player::Event::Countdown(_) => None,
+        player::Event::Started(position) => Some((1, position as u32)),
+        player::Event::Finished => Some((2, 0)),
+        player::Event::Ftp(watts) => Some((3, watts.into())),
+    })
+}
+
+/// The Rust's player after a call of which nothing is refused; ride is its loop over `until_end` and `ride_part`.
+fn play(
+    player: &mut player::Player,
+    last: &mut Sample,
+    profile: &TrainingProfile,
+    call: &Call,
+    events: &mut Vec<Event>,
+) {
+    match call {
+        Call::Read(sample) => {
+            player.read(sample);
+            *last = *sample;
+        }
+        Call::Ride(pieces, _) => {
+            for &(mut ms, mut mm) in pieces {
+                while ms > 0 && !player.done() {
+                    let (part_ms, part_mm) = player.until_end(ms, mm);
+                    ms -= part_ms;
+                    mm -= part_mm;
+                    events.extend(compared(player.ride_part(part_ms, part_mm, last, profile).iter().copied()));
+                }
+            }
+        }
+        Call::Skip(_) => events.extend(compared(player.skip().iter().copied())),
+        Call::Extend => _ = player.extend(),
+    }
+}
+
+#[derive(Default)]
+struct Tally {
+    lists: u64,
+    calls: u64,
+    pieces: u64,
+    unrefused: u64,
+    rust: u64,
+    different: u64,
+    refused: [u64; 21],
+    events: [u64; 4],
+}
+
+/// What is wrong with a list, if anything is.
+fn compare(workout: &Workout, profile: TrainingProfile, calls: &[Call], tally: &mut Tally) -> Option<String> {
+    let file = codec::encode(workout);
+    let cut: Vec<[u32; 8]> = calls.iter().flat_map(|call| words_of(call, &profile)).collect();
+    let answers = ours(&file, &cut);
+    let mut machine = Machine::new(workout, profile);
+    let mut rust = player::Player::new(workout.clone());
+    let (mut last, mut events, mut refused) = (Sample::default(), Vec::new(), false);
+    let mut at = 0;
+    tally.lists += 1;
+    tally.calls += calls.len() as u64;
+    if answers[0][0] != 0 || answers[0][1..] != machine_words(&machine) {
+        return Some(format!("fresh: Rattle {:?}", answers[0]));
+    }
+    for (i, call) in calls.iter().enumerate() {
+        for number in feed(&mut machine, call) {
+            at += 1;
+            tally.pieces += 1;
+            tally.refused[number as usize] += 1;
+            refused |= number != 0;
+            if answers[at][0] != number {
+                return Some(format!("call {i}: refused {}, by the machine {number}", answers[at][0]));
+            }
+        }
+        let words = machine_words(&machine);
+        if answers[at][1..] != words {
+            return Some(format!("call {i}: Rattle {:?}, machine {words:?}", &answers[at][1..]));
+        }
+        if !refused {
+            play(&mut rust, &mut last, &profile, call, &mut events);
+            tally.rust += 1;
+            if rust_words(&rust, &events) != words {
+                return Some(format!("call {i}: Rust {:?}, machine {words:?}", rust_words(&rust, &events)));
+            }
+        }
+    }
+    for &(kind, _) in &machine.events {
+        tally.events[kind as usize] += 1;
+    }
+    let uncut: Vec<Call> = calls.iter().map(whole).collect();
+    let fits = |call: &Call| !matches!(call, Call::Ride(pieces, _) if pieces[0].0 > u64::from(u32::MAX) || pieces[0].1 > u64::from(u32::MAX));
+    let whole_words: Vec<[u32; 8]> = uncut.iter().flat_map(|call| words_of(call, &profile)).collect();
+    if uncut.iter().all(fits) && ours(&file, &whole_words).iter().all(|words| words[0] == 0) {
+        tally.unrefused += 1;
+        if refused {
+            return Some("nothing of the uncut list is refused, and something of the cut one".into());
+        }
+    }
+    None
+}
+
+fn whole(call: &Call) -> Call {
+    match call {
+        Call::Ride(pieces, places) => {
+            let sum = pieces.iter().fold((0, 0), |(ms, mm), piece| (ms + piece.0, mm + piece.1));
+            Call::Ride(vec![sum], *places)
+        }
+        call => call.clone(),
+    }
+}
+
+fn main() {
+    let numbers: Vec<u64> = std::env::args().skip(1).map(|word| word.parse().expect("LISTS SEED")).collect();
+    let [count, seed] = numbers[..] else { panic!("LISTS SEED") };
+    let mut random = Random(seed);
+    let mut tally = Tally::default();
+    for i in 0..count {
+        let workout = workout(&mut random);
+        let profile =
+            TrainingProfile { ftp_watts: 50 + random.below(551) as u16, lthr_bpm: 1 + random.below(255) as u16 };
+        let calls = match i {
+            0..8 => touches(),
+            8 => days(),
+            _ => list(&mut random),
+        };
+        if let Some(fault) = compare(&workout, profile, &calls, &mut tally) {
+            tally.different += 1;
+            if tally.different <= 3 {
+                println!(
+                    "{fault}\n  steps {:?}\n  test {:?}, profile {profile:?}\n  calls {calls:?}",
+                    workout.steps(),
+                    workout.test
+                );
+            }
+        }
+    }
+    println!(
+        "cutting: {} lists, {} calls, {} as cut; machine and Rattle, {} lists different; {} calls of the Rust's player too; {} lists with nothing refused uncut",
+        tally.lists, tally.calls, tally.pieces, tally.different, tally.rust, tally.unrefused
+    );
+    println!("accepted, then refused by 1 to 20: {:?}", tally.refused);
+    println!("events (countdown, started, finished, FTP): {:?}", tally.events);
+    let missing = [0, 11, 12, 13, 14, 15].iter().any(|&i| tally.refused[i] == 0) || tally.events[1..].contains(&0);
+    if missing {
+        println!("a refusal or a kind of event wasn't met");
+    }
+    std::process::exit((tally.different > 0 || missing).into());
+}

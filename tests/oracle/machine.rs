@@ -1,0 +1,236 @@
+//! Document 01's millisecond machine, written from its paragraph and run millisecond by millisecond. Of the Rust it takes what
+//! document 01 lets machine and player share: the played steps, the band and the heart zone.
+use vana::ride::{log::Sample, zones::TrainingProfile};
+use vana::workout::model::{Intensity, Length, Metric, Step, Target, Test, Workout};
+
+/// An event of kind 1 (started), 2 (finished) or 3 (FTP), with its value.
+pub type Event = (u32, u32);
+
+/// A piece of a ride; questions 12 and 13 are asked of it.
+#[derive(Clone, Copy, Debug)]
+pub struct Piece {
+    pub ms: u64,
+    pub mm: u64,
+}
+
+/// "State: position, time and extra in the step, last three readings, tallies, test sums, a list of seconds' watts with a rest, FTP."
+pub struct Machine {
+    steps: Vec<Step>,
+    test: Option<Test>,
+    profile: TrainingProfile,
+    pub position: usize,
+    time: u64,
+    extra: u64,
+    pub skipped: u32,
+    readings: Vec<Sample>,
+    pub targeted: u64,
+    pub inside: u64,
+    pub under: u64,
+    pub over: u64,
+    sum: u64,
+    test_time: u64,
+    rest: u64,
+    seconds: Vec<u16>,
+    pub ftp: Option<u64>,
+    pub events: Vec<Event>,
+    total_ms: u64,
+    total_mm: u64,
+}
+
+impl Machine {
+    /// "It starts at position 0, all else 0, empty or absent."
+    pub fn new(workout: &Workout, profile: TrainingProfile) -> Self {
+        Self {
+            steps: workout.played().map(|played| played.step).collect(),
+            test: workout.test,
+            profile,
+            position: 0,
+            time: 0,
+            extra: 0,
+            skipped: 0,
+            readings: Vec::new(),
+            targeted: 0,
+            inside: 0,
+            under: 0,
+            over: 0,
+            sum: 0,
+            test_time: 0,
+            rest: 0,
+            seconds: Vec::new(),
+            ftp: None,
+            events: Vec::new(),
+            total_ms: 0,
+            total_mm: 0,
+        }
+    }
+
+    pub fn steps(&self) -> usize {
+        self.steps.len()
+    }
+
+    pub fn finished(&self) -> bool {
+        self.position == self.steps.len()
+    }
+
+    /// "Read: the newest three stay." Refused by 11.
+    pub fn read(&mut self, sample: Sample) -> u32 {
+        if sample.cadence_tenths.is_some_and(|tenths| tenths > 65_530) {
+            return 11;
+        }
+        self.readings.push(sample);
+        if self.readings.len() > 3 {
+            self.readings.remove(0);
+        }
+        0
+    }
+
+    /// "Extend: 60 s more in an unfinished timed step." Refused by 15.
+    pub fn extend(&mut self) -> u32 {
+        let timed = !self.finished() && matches!(self.steps[self.position].length, Length::Time(_));
+        if timed && self.extra + 60 > 86_400 {
+            return 15;
+        }
+        if timed {
+            self.extra += 60;
+        }
+        0
+    }
+
+    /// "Skip: unless finished, end the step, marked." Refused by 14.
+    pub fn skip(&mut self, places: [u32; 2]) -> u32 {
+        if places.iter().any(|&places| places < 193) {
+            return 14;
+        }
+        if !self.finished() {
+            self.end(true);
+        }
+        0
+    }
+
+    /// A piece of a ride. Refused by 12, 13 and 14.
+    pub fn ride(&mut self, piece: Piece, places: [u32; 2]) -> u32 {
+        if piece.ms > 86_400_000 || piece.mm > 1_000_000_000 {
+            return 12;
+        }
+        if self.total_ms + piece.ms > 604_800_000 || self.total_mm + piece.mm > 7_000_000_000 {
+            return 13;
+        }
+        if places.iter().any(|&places| places < 193) {
+            return 14;
+        }
+        if piece.ms > 0 {
+            self.total_ms += piece.ms;
+            self.total_mm += piece.mm;
+        }
+        for _ in 0..piece.ms {
+            if self.finished() {
+                break;
+            }
+            self.millisecond();
+        }
+        0
+    }
+
+    fn newest(&self) -> Sample {
+        self.readings.last().copied().unwrap_or_default()
+    }
+
+    /// "the three-reading average": of those present, rounded half up.
+    fn average(&self) -> Option<u32> {
+        let present: Vec<u32> = self.readings.iter().filter_map(|sample| sample.power_watts).map(u32::from).collect();
+        let count = present.len() as u32;
+        (count > 0).then(|| (present.iter().sum::<u32>() + count / 2) / count)
+    }
+
+    /// "with a band and its reading present": below, in or above it.
+    fn compliance(&self, step: &Step) -> Option<std::cmp::Ordering> {
+        let band = step.target.band(&self.profile, (self.time / 1_000) as u32)?;
+        let reading = match band.metric {
+            Metric::Power => self.average(),
+            Metric::Heart => self.newest().heart_bpm.map(u32::from),
+            Metric::Cadence => self.newest().cadence_tenths.map(|tenths| (u32::from(tenths) + 5) / 10),
+        }?;
+        let (low, high, value) = match step.target {
+            // "For a heart zone compliance compares zones and not the band"
+            Target::HeartZone(zone) => {
+                let zone = u32::from(zone);
+                (zone, zone, u32::from(self.profile.heart_zone(reading as u16)))
+            }
+            _ => (u32::from(band.low), u32::from(band.high), reading),
+        };
+        Some(if value < low {
+            std::cmp::Ordering::Less
+        } else if value > high {
+            std::cmp::Ordering::Greater
+        } else {
+            std::cmp::Ordering::Equal
+        })
+    }
+
+    /// "Each millisecond, unless finished".
+    fn millisecond(&mut self) {
+        let step = self.steps[self.position];
+        if let Some(compliance) = self.compliance(&step) {
+            self.targeted += 1;
+            match compliance {
+                std::cmp::Ordering::Less => self.under += 1,
+                std::cmp::Ordering::Equal => self.inside += 1,
+                std::cmp::Ordering::Greater => self.over += 1,
+            }
+        }
+        self.time += 1;
+        let power = self.newest().power_watts.unwrap_or(0);
+        match self.test.filter(|_| step.intensity == Intensity::Test) {
+            Some(Test::Twenty) => {
+                self.sum += u64::from(power);
+                self.test_time += 1;
+            }
+            Some(Test::Ramp) => {
+                self.rest += 1;
+                if self.rest == 1_000 {
+                    self.rest = 0;
+                    self.seconds.push(power);
+                }
+            }
+            None => {}
+        }
+        if let Length::Time(secs) = step.length {
+            if self.time == 1_000 * (u64::from(secs) + self.extra) {
+                self.end(false);
+            }
+        }
+    }
+
+    /// The result of the step that is ending: "Only 50 to 600 is kept."
+    fn result(&self, step: &Step, marked: bool) -> Option<u64> {
+        let watts = match self.test.filter(|_| step.intensity == Intensity::Test)? {
+            Test::Twenty => {
+                let Length::Time(secs) = step.length else { return None };
+                if marked || self.test_time < 1_000 * (u64::from(secs) + self.extra) {
+                    return None;
+                }
+                let mean = (self.sum + self.test_time / 2) / self.test_time;
+                (mean * 95 + 50) / 100
+            }
+            Test::Ramp => {
+                let minute = |seconds: &[u16]| (seconds.iter().map(|&watts| u64::from(watts)).sum::<u64>() + 30) / 60;
+                (self.seconds.windows(60).map(minute).max()? * 75 + 50) / 100
+            }
+        };
+        (50..=600).contains(&watts).then_some(watts)
+    }
+
+    /// "Ending"
+    fn end(&mut self, marked: bool) {
+        let step = self.steps[self.position];
+        if let Some(watts) = self.result(&step, marked) {
+            self.ftp = Some(watts);
+            self.events.push((3, watts as u32));
+        }
+        self.position += 1;
+        self.skipped += u32::from(marked);
+        self.time = 0;
+        self.extra = 0;
+        self.events.push(if self.finished() { (2, 0) } else { (1, self.position as u32) });
+    }
+}
