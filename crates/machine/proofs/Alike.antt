@@ -1,11 +1,10 @@
 -- The relation between the player's core with its minute and the machine, and that a part of a step and a step's end keep it.
 use mathlib.Core.Path.{_≡_, refl, sym, ap, ap₂, _∙_, subst}
-use mathlib.Core.Bool.{Bool, true, false, cond, not, _&&_}
+use mathlib.Core.Bool.{Bool, true, false, cond}
 use mathlib.Core.Option.{Option, none, some}
-use mathlib.Core.List.{List, [], _∷_, _++_, append-assoc, append-nil}
-use Prim.Native.Nat.{ℕ, zero, suc, _+_, _-_, _*_, _/_, _%_, _≤_, _<_, min}
+use mathlib.Core.List.{List, [], _∷_, _++_, append-assoc}
+use Prim.Native.Nat.{ℕ, _+_, _*_, _/_, _<_}
 use native.Mathlib.Omega.{arith}
-use lib.Dec.{leb, ltb, eqb}
 use Rattle.zones.specs.declared.TrainingProfile.{TrainingProfile}
 use Rattle.model.specs.declared.Intensity.{Intensity}
 use Rattle.model.specs.declared.Intensity.the-variants.{Warmup, Work, Recovery, Cooldown}
@@ -34,20 +33,19 @@ use Rattle.readings.specs.declared.Compliance.the-variants.{Under, In, Over}
 use Rattle.readings.specs.declared.ComplianceOption.{ComplianceOption}
 use Rattle.readings.specs.declared.ComplianceOption.the-variants.{NoBand, NoReading}
 use Rattle.readings.specs.declared.ComplianceOption.the-variants as how
-use Rattle.readings.specs.Readings.{orZero, isSome, averageOf, perMinute, judged, readingOf, complianceOf}
-use Rattle.events.specs.Events.{Event, countdown, started, finished, ftp, eventsIf}
+use Rattle.readings.specs.Readings.{orZero, averageOf, perMinute, judged, readingOf, complianceOf}
+use Rattle.events.specs.Events.{Event, countdown, finished, ftp, eventsIf}
 use Rattle.state.specs.declared.Lap.{Lap}
 use Rattle.state.specs.declared.Summary.{Summary}
 use Rattle.state.specs.declared.Measured.{Measured}
-use Rattle.state.specs.declared.StepNow.{StepNow}
 use Rattle.state.specs.declared.Core.{Core}
-use Rattle.state.specs.State.{durationMs, tallied, stepNow}
+use Rattle.state.specs.State.{durationMs, tallied}
 use Rattle.measure.specs.Measure as measure
 use Rattle.measure.specs.Measure.{Meter, meter, minuteOf, lowBy, rampTarget, rampPart, measuredBy, measuredOf, twentyFtp, rampFtp, resultBy, resultOf}
 use Rattle.step_end.specs.StepEnd as player
-use Rattle.step_end.specs.StepEnd.{Outcome, dueAt, countdownAt, countdownsTo, countdownsOf, orElse, stepAfter, arrived, afterEvent, nextTo, nextOf}
+use Rattle.step_end.specs.StepEnd.{Outcome, dueAt, countdownsTo, countdownsOf, orElse, arrived, afterEvent, nextTo, nextOf}
 use Rattle.rounds.specs.Rounds.{Riding, riding, advanced, complianceNow}
-use Rattle.machine.specs.Machine.{Tallies, Sums, Machine, stepOf, stepAt, newest, powerOf, isTest, testIn, endOf, twenty, greatest, rampOf, ramp, result, resultIn, ftpAfter, ftpEvents, nextEvent, ended, readingFor, complianceBy, complianceIn, lastPower}
+use Rattle.machine.specs.Machine.{Tallies, Sums, Machine, stepOf, stepAt, newest, isTest, testIn, endOf, twenty, rampOf, ramp, result, resultIn, ftpAfter, ftpEvents, nextEvent, ended, readingFor, complianceBy, complianceIn, lastPower}
 use Rattle.machine.specs.Runs.{Totals}
 use Rattle.machine.specs.ThirdDemand.{isRamp, isCompared, compared}
 use Rattle.machine.proofs.Seconds.{MinuteIs, capped}

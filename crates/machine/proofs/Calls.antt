@@ -2,11 +2,11 @@
 use mathlib.Core.Path.{_≡_, refl, sym, ap, ap₂, _∙_, subst}
 use mathlib.Core.Bool.{Bool, true, false, cond, _&&_}
 use mathlib.Core.Option.{Option, none, some}
-use mathlib.Core.List.{List, [], _∷_, _++_, append-nil}
-use Prim.Native.Nat.{ℕ, zero, suc, _+_, _*_, _≤_, _<_}
+use mathlib.Core.List.{List, _++_, append-nil}
+use Prim.Native.Nat.{ℕ, _+_, _≤_}
 use native.Mathlib.Omega.{arith}
 use lib.Dec.{leb, eqb}
-use borrow.Author.Tests.{eqb-true, eqb-false}
+use borrow.Author.Tests.{eqb-true}
 use Rattle.refusal.specs.declared.Answer.{Answer}
 use Rattle.refusal.specs.declared.Answer.the-variants.{Accepted, Refused}
 use Rattle.refusal.specs.declared.Refusal.{Refusal}
@@ -18,30 +18,27 @@ use Rattle.model.specs.declared.Length.{Length}
 use Rattle.model.specs.declared.Length.the-variants.{Time, Distance, Open}
 use Rattle.model.specs.declared.Step.{Step}
 use Rattle.model.specs.declared.Workout.{Workout}
-use Rattle.order.specs.Order.{playedLen}
 use Rattle.readings.specs.declared.ReadingOption.{ReadingOption}
 use Rattle.readings.specs.declared.ReadingOption.the-variants.{None, Some}
 use Rattle.readings.specs.declared.Sample.{Sample}
 use Rattle.readings.specs.Readings.{taken}
 use Rattle.events.specs.Events.{Event}
-use Rattle.state.specs.declared.Core.{Core}
 use Rattle.state.specs.declared.Player.{Player}
-use Rattle.state.specs.State.{readCore, extendedLap}
+use Rattle.state.specs.State.{readCore}
 use Rattle.step_end.specs.StepEnd.{nextOf}
 use Rattle.rounds.specs.Rounds.{Riding, riding, Rode, ridingOf, rounds}
 use Rattle.standing.specs.Standing.{standingOf, cadenceIn}
 use Rattle.updates.specs.declared.Update.{Update}
-use Rattle.updates.specs.declared.Extended.{Extended}
 use Rattle.player.specs.Calls as player
-use Rattle.updates.specs.Updates.{Called, eventless, playerOf, withCore, totalled, rodeTo, rideBy, rideNow, skipTo, skipNow, notExtended, withLap, longerBy, extendBy}
+use Rattle.updates.specs.Updates.{Called, eventless, playerOf, withCore, totalled, rideBy, rideNow, skipTo, skipNow, notExtended, longerBy, extendBy}
 use Rattle.player.specs.Calls.{answered, updateAnswer, rideAnswer, rideOf, readAnswer, readBy, readOf, skipAnswer, skipOf, extendNow, extendOf}
-use Rattle.machine.specs.Machine.{Machine, endOf, stepAt, isNone, newest, reading, extraIn, extraAfter, withExtra, skipped, milliseconds}
-use Rattle.machine.specs.Cutting.{Call, read, ride, skip, extend, Piece}
-use Rattle.machine.specs.Runs.{ofRead, ofExtend, called, Totals, Progress, cadenceOk, readAsks, pieceOk, totalsOk, placesOk, pieceAsks, skipAsks, extraAsks, extraNext, extendAsks, unlessRefused, withPiece, afterPiece, afterCall}
+use Rattle.machine.specs.Machine.{Machine, stepAt, reading, extraIn, extraAfter, withExtra, skipped, milliseconds}
+use Rattle.machine.specs.Cutting.{read, skip, extend, Piece}
+use Rattle.machine.specs.Runs.{ofRead, ofExtend, called, Totals, Progress, cadenceOk, readAsks, pieceOk, placesOk, pieceAsks, skipAsks, extraAsks, extendAsks, unlessRefused, withPiece, afterPiece, afterCall}
 use Rattle.machine.specs.ThirdDemand.{compared, Taken}
 use Rattle.machine.proofs.Average.{added-is}
 use Rattle.machine.proofs.AtOnce.{Before}
-use Rattle.machine.proofs.Alike.{Matches, On, Riding-on, Now, Alike, Lasting, Plain, next-is}
+use Rattle.machine.proofs.Alike.{Now, Alike, Lasting, next-is}
 use Rattle.machine.proofs.Loop.{cond-true, cond-false, loop-is}
 use Rattle.machine.proofs.Scope.{few, past, each}
 

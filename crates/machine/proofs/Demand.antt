@@ -1,23 +1,21 @@
 -- The third demand, whole.
 use mathlib.Core.Path.{_≡_, refl, sym, ap, ap₂, _∙_, subst}
-use mathlib.Core.Bool.{Bool, true}
-use mathlib.Core.List.{List, [], _∷_, _++_}
+use mathlib.Core.Bool.{true}
+use mathlib.Core.List.{List, [], _∷_}
 use Prim.Native.Nat.{ℕ, zero, suc}
 use native.Mathlib.Omega.{arith}
 use lib.ListN.{take}
-use Rattle.refusal.specs.declared.Answer.{Answer}
 use Rattle.zones.specs.declared.TrainingProfile.{TrainingProfile}
 use Rattle.zones.specs.Zones.{profileOk}
 use Rattle.model.specs.declared.Workout.{Workout}
 use Rattle.state.specs.declared.Summary.{Summary}
-use Rattle.state.specs.declared.Player.{Player}
 use Rattle.standing.specs.Standing.{standingOf}
 use Rattle.start.specs.Start.{newOf}
 use Rattle.history.specs.Record.{recordOf, recordBytes}
-use Rattle.machine.specs.Machine.{Machine, summaryOf}
-use Rattle.machine.specs.Cutting.{Call, CutCall, cut, uncut, AllWellCut, alone}
-use Rattle.machine.specs.Runs.{Run, run, Progress, begun, afterCalls, callsAsk}
-use Rattle.machine.specs.ThirdDemand.{Taken, compared, cutRun, uncutRun, AllAccepted, Claim, ThirdDemand}
+use Rattle.machine.specs.Machine.{summaryOf}
+use Rattle.machine.specs.Cutting.{Call, CutCall, uncut, AllWellCut, alone}
+use Rattle.machine.specs.Runs.{run, begun, afterCalls, callsAsk}
+use Rattle.machine.specs.ThirdDemand.{Taken, cutRun, uncutRun, AllAccepted, Claim, ThirdDemand}
 use Rattle.machine.specs.ThirdDemand as demand
 use Rattle.machine.proofs.Lists.{RunIs, After, list-is, new-after}
 use Rattle.machine.proofs.Lists as lists

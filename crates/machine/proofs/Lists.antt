@@ -3,34 +3,31 @@ use mathlib.Core.Path.{_≡_, refl, sym, ap, ap₂, _∙_, subst}
 use mathlib.Core.Bool.{Bool, true, false, cond}
 use mathlib.Core.Option.{Option, none, some}
 use mathlib.Core.List.{List, [], _∷_, _++_, map, append-assoc, append-nil}
-use Prim.Native.Nat.{ℕ, zero, suc, _+_, _<_}
+use Prim.Native.Nat.{ℕ, zero, suc, _+_}
 use native.Mathlib.Omega.{arith}
-use lib.ListN.{length, take, replicate, length-replicate}
+use lib.ListN.{length, length-replicate}
 use Rattle.refusal.specs.declared.Answer.{Answer}
 use Rattle.refusal.specs.declared.Answer.the-variants.{Accepted, Refused}
 use Rattle.zones.specs.declared.TrainingProfile.{TrainingProfile}
 use Rattle.zones.specs.Zones.{profileOk}
 use Rattle.model.specs.declared.Step.{Step}
 use Rattle.model.specs.declared.Workout.{Workout}
-use Rattle.order.specs.Order.{playedOf, playedLen}
-use Rattle.validation.specs.Sound.{workoutAnswer}
+use Rattle.order.specs.Order.{playedOf}
 use Rattle.readings.specs.declared.Sample.{Sample}
-use Rattle.readings.specs.Readings.{orZero, window}
+use Rattle.readings.specs.Readings.{window}
 use Rattle.events.specs.Events.{Event}
-use Rattle.state.specs.declared.Summary.{Summary}
 use Rattle.state.specs.declared.Player.{Player}
 use Rattle.standing.specs.Standing.{standingOf}
 use Rattle.start.specs.Start.{fresh, newBy, newOf}
-use Rattle.updates.specs.Updates.{Called}
 use Rattle.keeps.specs.Keeps.{PowerFits, PlayerFits}
 use Rattle.keeps.proofs.Fresh.{keeps-standing}
-use Rattle.machine.specs.Machine.{Machine, start, stepAt, isNone, isFinished, greatest, newest, lastPower, reading, withExtra, skipped, ended, ridden, closed, millisecondIn, millisecond, milliseconds, extraAfter, isOver, summaryOf}
+use Rattle.machine.specs.Machine.{Machine, start, stepAt, isNone, isFinished, greatest, newest, reading, withExtra, skipped, ended, ridden, closed, millisecondIn, millisecond, milliseconds, isOver, summaryOf}
 use Rattle.machine.specs.Cutting.{Call, read, ride, skip, extend, Piece, CutCall, pieceCall, callsOf, cut, WellCut, AllWellCut}
-use Rattle.machine.specs.Runs.{called, Run, run, Totals, Progress, begun, readAsks, pieceAsks, skipAsks, extendAsks, extraNext, unlessRefused, afterPiece, afterPieces, afterCall, afterCalls, piecesAsk, callAsks, callsAsk}
+use Rattle.machine.specs.Runs.{called, Run, run, Progress, begun, readAsks, pieceAsks, skipAsks, extendAsks, extraNext, unlessRefused, afterPiece, afterPieces, afterCall, afterCalls, piecesAsk, callAsks, callsAsk}
 use Rattle.machine.specs.ThirdDemand.{compared, Taken}
-use Rattle.machine.proofs.Seconds.{MinuteIs, backwards}
+use Rattle.machine.proofs.Seconds.{backwards}
 use Rattle.machine.proofs.Average.{PowerIs}
-use Rattle.machine.proofs.Alike.{MeasuredIs, SummaryIs, Matches, Riding-on, Now, Alike, join-events, before-start}
+use Rattle.machine.proofs.Alike.{MeasuredIs, Now, join-events, before-start}
 use Rattle.machine.proofs.Scope.{first, each}
 use Rattle.machine.proofs.Calls.{Same, Goes, read-is, skip-is, extend-is, piece-is}
 

@@ -3,18 +3,16 @@ use mathlib.Core.Path.{_≡_, refl, sym, ap, ap₂, _∙_, subst}
 use mathlib.Core.Logic.{_⊎_, inl, inr, ⊎-elim}
 use mathlib.Core.Bool.{Bool, true, false, cond, _||_}
 use mathlib.Core.Option.{Option, none, some}
-use mathlib.Core.List.{List, [], _∷_, _++_, append-nil}
-use Prim.Native.Nat.{ℕ, zero, suc, _+_, _-_, _*_, _/_, _≤_, _<_}
-use native.Mathlib.Nat.{zero-add}
+use mathlib.Core.List.{List, _++_, append-nil}
+use Prim.Native.Nat.{ℕ, zero, suc, _+_, _-_, _*_, _≤_, _<_}
 use native.Mathlib.Omega.{arith}
 use lib.Dec.{leb, ltb, eqb}
-use borrow.Author.Tests.{leb-true, leb-false, ltb-true, ltb-false, eq-eqb, ne-eqb}
+use borrow.Author.Tests.{leb-true, leb-false, ltb-true, ltb-false, ne-eqb}
 use Rattle.zones.specs.declared.TrainingProfile.{TrainingProfile}
 use Rattle.model.specs.declared.Length.{Length}
 use Rattle.model.specs.declared.Length.the-variants.{Time, Distance, Open}
 use Rattle.model.specs.declared.Target.{Target}
 use Rattle.model.specs.declared.Target.the-variants.{Free, Ftp, Watts, HeartZone, Lthr, Cadence, Ramp, FtpRamp}
-use Rattle.model.specs.declared.RampOption.the-variants as ramps
 use Rattle.model.specs.declared.Step.{Step}
 use Rattle.model.specs.declared.Workout.{Workout}
 use Rattle.model.specs.Target.{rampOption}
@@ -23,16 +21,16 @@ use Rattle.events.specs.Events.{Event}
 use Rattle.state.specs.declared.Lap.{Lap}
 use Rattle.state.specs.declared.Core.{Core}
 use Rattle.state.specs.declared.Part.{Part}
-use Rattle.state.specs.State.{durationMs, part, timeShare, shareOf, untilEnd}
+use Rattle.state.specs.State.{part, timeShare, shareOf, untilEnd}
 use Rattle.measure.specs.Measure.{rampFailed}
-use Rattle.step_end.specs.StepEnd.{Outcome, countdownsOf, overBy, nextOf}
+use Rattle.step_end.specs.StepEnd.{Outcome, countdownsOf, overBy}
 use Rattle.step_end.specs.StepEnd as player
 use Rattle.rounds.specs.Rounds.{Riding, riding, Rode, ridingOf, advanced, closedBy, closed, accounted, stays, roundOf, isStopped, joined, rounds, complianceNow}
 use Rattle.machine.specs.Machine.{Machine, stepAt, endOf, ended, milliseconds}
 use Rattle.machine.specs.Runs.{Totals}
 use Rattle.machine.specs.ThirdDemand.{isRamp, compared}
 use Rattle.machine.proofs.AtOnce.{apart, Before, EndsAt, riddenBy, milliseconds-add, milliseconds-done, milliseconds-within, milliseconds-end}
-use Rattle.machine.proofs.Alike.{Matches, On, Riding-on, Now, Alike, Lasting, Plain, tallied-finished, advanced-is, compared-append, countdowns-left, join-events, next-is}
+use Rattle.machine.proofs.Alike.{Riding-on, Now, Alike, Lasting, Plain, tallied-finished, advanced-is, compared-append, countdowns-left, join-events, next-is}
 
 pub cond-true : {A : Type 0} (t : Bool) (x y : A) → t ≡ true → cond t x y ≡ x
 cond-true t x y e = rw e refl

@@ -1,12 +1,12 @@
 -- A ride's pieces one by one are the milliseconds of those that aren't refused at once.
 use mathlib.Core.Path.{_≡_, refl, sym, ap, ap₂, _∙_}
 use mathlib.Core.List.{List, [], _∷_}
-use Prim.Native.Nat.{ℕ, zero, _+_}
+use Prim.Native.Nat.{ℕ, _+_}
 use Rattle.refusal.specs.declared.Answer.{Answer}
 use Rattle.refusal.specs.declared.Answer.the-variants.{Accepted, Refused}
 use Rattle.zones.specs.declared.TrainingProfile.{TrainingProfile}
 use Rattle.model.specs.declared.Workout.{Workout}
-use Rattle.machine.specs.Machine.{Machine, milliseconds}
+use Rattle.machine.specs.Machine.{milliseconds}
 use Rattle.machine.specs.Cutting.{Piece, sumMs}
 use Rattle.machine.specs.Runs.{Progress, pieceAsks, afterPiece, afterPieces, piecesAsk, lastsBy, lasts}
 use Rattle.machine.specs.ThirdDemand.{AllAccepted, PiecesAtOnce}

@@ -1,5 +1,5 @@
 -- A refused call leaves the player and gives no events.
-use mathlib.Core.Path.{_≡_, refl, sym, ap, _∙_}
+use mathlib.Core.Path.{_≡_, refl, sym, _∙_}
 use mathlib.Core.Bool.{Bool, true, false, cond}
 use mathlib.Core.List.{[]}
 use Prim.Native.Nat.{ℕ, _+_}
@@ -20,7 +20,7 @@ use Rattle.standing.specs.Standing.{standingOf}
 use Rattle.updates.specs.declared.Extended.{Extended}
 use Rattle.updates.specs.Updates.{Called, eventless, totalled, rideBy, rideNow, skipTo, skipNow, notExtended, longerBy, extendBy}
 use Rattle.player.specs.Calls.{answered, rideAnswer, rideOf, readAnswer, readBy, readOf, skipAnswer, skipOf, extendNow, extendOf}
-use Rattle.machine.specs.Cutting.{Call, read, ride, skip, extend}
+use Rattle.machine.specs.Cutting.{read, ride, skip, extend}
 use Rattle.machine.specs.Runs.{ofRead, ofExtend, called}
 use Rattle.machine.specs.ThirdDemand.{RefusedStays}
 

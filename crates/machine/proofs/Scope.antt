@@ -1,17 +1,16 @@
 -- What the third demand's workouts play: steps that are timed or open, without ramps, one at each position below the played length.
 use mathlib.Core.Path.{_≡_, refl, sym, ap, _∙_, subst}
-use mathlib.Core.Bool.{Bool, true, false, cond, not, _&&_}
+use mathlib.Core.Bool.{Bool, true, false, cond, not}
 use mathlib.Core.Option.{Option, none, some}
 use mathlib.Core.List.{List}
 use Prim.Native.Nat.{ℕ, _≤_, _<_}
 use native.Mathlib.Omega.{arith}
-use lib.Dec.{ltb, leb}
+use lib.Dec.{ltb}
 use lib.ListN.{length, getD, length-take}
 use borrow.Author.Tests.{ltb-true, lt-ltb, le-ltb}
 use Rattle.common.specs.Lists.{all}
 use Rattle.common.proofs.Tests.{and-left, and-right}
 use Rattle.common.proofs.Lists.{all-get}
-use Rattle.refusal.specs.declared.Answer.the-variants.{Accepted}
 use Rattle.model.specs.declared.Length.{Length}
 use Rattle.model.specs.declared.Length.the-variants.{Time, Distance, Open}
 use Rattle.model.specs.declared.Step.{Step}

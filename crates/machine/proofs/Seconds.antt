@@ -1,20 +1,19 @@
 -- The minute ring read backwards from its place is the newest part of the machine's seconds, and its best minute their greatest
 -- mean. All of it is for a minute of any number of seconds but none.
 use mathlib.Core.Path.{_≡_, refl, sym, ap, _∙_, subst}
-use mathlib.Core.Bool.{Bool, true, false, cond}
+use mathlib.Core.Bool.{Bool, true, false}
 use mathlib.Core.List.{List, [], _∷_, _++_, reverse, reverse-append, reverse-cons, append-assoc, append-nil}
-use Prim.Native.Nat.{ℕ, zero, suc, _+_, _-_, _*_, _/_, _%_, _≤_, _<_, min, max}
+use Prim.Native.Nat.{ℕ, zero, suc, _+_, _-_, _%_, _≤_, _<_, min}
 use native.Mathlib.Nat.{add-suc, suc-add, zero-min, min-zero, suc-min-suc, mod-lt, mod-eq-of-lt, mod-self, zero-add}
 use native.Mathlib.Numerals.{add-one}
 use native.Mathlib.Omega.{arith}
-use lib.Dec.{leb, ltb, eqb}
+use lib.Dec.{leb, eqb}
 use lib.ListN.{length, take, drop, set, getD, replicate, length-append, length-take, length-drop, length-set, length-reverse, length-replicate, take-append-drop, drop-of-length-le}
 use lib.Seq.{take-nil, take-suc-set, drop-set-lt, drop-cons, take-at, take-all, take-take}
 use borrow.Author.Tests.{eqb-true, eqb-false, leb-true, leb-false, le-leb, lt-leb}
 use Rattle.common.specs.Lists.{sum}
 use Rattle.readings.specs.declared.ReadingOption.{ReadingOption}
 use Rattle.readings.specs.declared.ReadingOption.the-variants.{None, Some}
-use Rattle.state.specs.declared.Ring.{Ring}
 use Rattle.measure.specs.Measure.{Minute, above, bestAfter, meanOf, pushed, pushes}
 use Rattle.machine.specs.Machine.{mean, greater, greatest}
 

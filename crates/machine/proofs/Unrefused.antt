@@ -1,19 +1,17 @@
 -- Where nothing of the uncut list is refused, nothing of the cut one is: a fact about the machine's own questions alone. Both lists
 -- bring the machine to the same state, and the cut list's sums for question 13 are never more than the uncut list's.
-use mathlib.Core.Path.{_≡_, refl, sym, ap, ap₂, _∙_, subst}
-use mathlib.Core.Bool.{Bool, true, false, cond, _&&_}
+use mathlib.Core.Path.{_≡_, refl, sym, ap, _∙_, subst}
+use mathlib.Core.Bool.{Bool, true, false, cond}
 use mathlib.Core.Option.{Option}
-use mathlib.Core.List.{List, [], _∷_, _++_, map}
-use Prim.Native.Nat.{ℕ, zero, suc, _+_, _≤_, _<_}
+use mathlib.Core.List.{List, [], _∷_, _++_}
+use Prim.Native.Nat.{ℕ, _+_, _≤_}
 use native.Mathlib.Nat.{add-zero}
 use native.Mathlib.Omega.{arith}
 use lib.Dec.{leb, eqb}
-use lib.ListN.{length}
 use borrow.Author.Tests.{leb-true, le-leb, eqb-true, eq-eqb}
 use Rattle.common.proofs.Tests.{and-left, and-right, and-both}
 use Rattle.refusal.specs.declared.Answer.{Answer}
-use Rattle.refusal.specs.declared.Answer.the-variants.{Accepted, Refused}
-use Rattle.refusal.specs.declared.Refusal.{Refusal}
+use Rattle.refusal.specs.declared.Answer.the-variants.{Accepted}
 use Rattle.refusal.specs.declared.Refusal.the-variants as refusals
 use Rattle.refusal.specs.Number.{ask}
 use Rattle.validation.proofs.Passes.{ask-left, ask-right}
@@ -22,7 +20,7 @@ use Rattle.model.specs.declared.Workout.{Workout}
 use Rattle.readings.specs.declared.Sample.{Sample}
 use Rattle.machine.specs.Machine.{Machine, stepAt, reading, withExtra, extraAfter, skipped, milliseconds}
 use Rattle.machine.specs.Cutting.{Call, read, ride, skip, extend, Piece, CutCall, callsOf, uncut, cut, sumMs, sumMm, Cuts, WellCut, AllWellCut, own, alone}
-use Rattle.machine.specs.Runs.{Totals, Progress, readAsks, pieceOk, totalsOk, placesOk, pieceAsks, skipAsks, extraAsks, extraNext, extendAsks, unlessRefused, withPiece, afterPiece, afterPieces, afterCall, piecesAsk, callAsks, callsAsk}
+use Rattle.machine.specs.Runs.{Totals, Progress, readAsks, pieceOk, totalsOk, placesOk, pieceAsks, skipAsks, extraAsks, extendAsks, unlessRefused, withPiece, afterPiece, afterPieces, afterCall, piecesAsk, callAsks, callsAsk}
 use Rattle.machine.specs.ThirdDemand.{AllAccepted}
 use Rattle.machine.proofs.AtOnce.{milliseconds-add}
 
