@@ -1,6 +1,7 @@
-//! Ride records read by both sides: the Rust's `decode`, and the Rattle's through the static library of crate `compare_records`, on
-//! samples, limits, damaged records and random ones. Words: how many random ones, and the seed. Writes how many were compared,
-//! read and refused. Fails where an answer differs, and where nothing of a kind was met.
+//! Ride records read by both sides, and written again: the Rust's `decode` and `encode`, and the Rattle's through the static library
+//! of crate `compare_records`, on samples, limits, damaged records and random ones. Words: how many random ones, and the seed.
+//! Writes how many were compared, read and refused. Fails where an answer or a byte differs, where the Rattle's writer touches a
+//! byte behind the record or, lent one byte too few, any byte, and where nothing of a kind was met.
 //!
 //! The 27 words of an answer: document 01's number of the refusal or 0, journal, ride id, test (0 none, 1 `Twenty`, 2 `Ramp`),
 //! the start (1 or 0 for none, its lower and upper 32 bits); steps done, steps, skipped, 1 if finished, FTP (1 or 0 for none, watts);
@@ -10,7 +11,7 @@ extern crate vana;
 
 use inputs::Random;
 use inputs::records::{limit_records, random_bytes};
-use vana::workout::history::{Record, decode};
+use vana::workout::history::{Record, SIZE, decode, encode};
 use vana::workout::model::Test;
 
 const WORDS: usize = 27;
@@ -20,10 +21,26 @@ const REFUSED: u32 = 18;
 unsafe extern "C" {
     /// Word `place` of the answer. A slice goes as its pointer and its length.
     safe fn record_word(bytes: *const u8, length: usize, place: u32) -> u32;
+    /// What is read, written again; the number of the writer's refusal.
+    safe fn record_written(bytes: *const u8, length: usize, out: *mut u8, places: usize) -> u32;
 }
 
 fn ours(bytes: &[u8]) -> [u32; WORDS] {
     std::array::from_fn(|place| record_word(bytes.as_ptr(), bytes.len(), place as u32))
+}
+
+/// The bytes that were lent never hold this one.
+const LENT: u8 = 0xA5;
+const NO_ROOM: u32 = 19;
+
+/// The record is written as the Rust writes it, later bytes stay, and lent one byte too few all stay.
+fn written_alike(bytes: &[u8], record: &Record) -> bool {
+    let mut out = [LENT; SIZE + 5];
+    let mut short = [LENT; SIZE - 1];
+    let number = record_written(bytes.as_ptr(), bytes.len(), out.as_mut_ptr(), out.len());
+    let refused = record_written(bytes.as_ptr(), bytes.len(), short.as_mut_ptr(), short.len());
+    let alike = out[..SIZE] == encode(record)[..] && out[SIZE..] == [LENT; 5];
+    number == 0 && alike && refused == NO_ROOM && short == [LENT; SIZE - 1]
 }
 
 fn halves(number: u64) -> [u32; 2] {
@@ -80,6 +97,10 @@ impl Found {
                 self.flags += u64::from(bytes[7] > 7);
                 self.later += u64::from(bytes.len() > usize::from(bytes[5]) + 4);
                 self.mended += u64::from(&bytes[21..21 + name.len()] != name);
+                if !written_alike(bytes, &record) {
+                    self.different += 1;
+                    println!("record {bytes:?} is written otherwise");
+                }
                 words(&record)
             }
             None => {

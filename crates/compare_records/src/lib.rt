@@ -1,8 +1,11 @@
 // Answers of this repository on ride records (tests/oracle/compare_records.rs), for tests only: what is read of a record, one word at
-// a time.
+// a time, and what it is written as again.
 ghost use mathlib.Core.Path.{_≡_};
 ghost use mathlib.Core.Bool.{cond};
+ghost use lib.ListN.{length};
+ghost use Rattle.refusal.specs.Number.{answerNumber};
 ghost use Rattle.history.specs.Decode.{decodeOf};
+ghost use Rattle.record_writer.specs.Write.{writeAnswer, outputOf};
 ghost use Rattle.compare_records.specs.Records.{halfWord, startWord, ftpWord, headWord, countWord, tallyWord, summaryWord, readWord};
 use compare::refused_number;
 use compare_files::text_word;
@@ -128,4 +131,15 @@ pub extern "C" fn record_word(bytes: &[u8], place: u32) -> u32
     ensures { λ r. ⌜ r ≡ readWord (decodeOf (now (bytes .entry))) place ⌝ }
 {
     read_word(decode(bytes), place)
+}
+
+// Reads a record and writes it again; the number of the writer's refusal, or 0.
+#[no_mangle]
+pub extern "C" fn record_written(bytes: &[u8], out: &mut [u8]) -> u32
+    ensures { λ r. ⌜ r ≡ answerNumber (writeAnswer (decodeOf (now (bytes .entry)) .«record») (length (now (out .entry)))) ⌝ }
+    ensures { λ _. ⌜ now (out .exit) ≡ outputOf (decodeOf (now (bytes .entry)) .«record») (now (out .entry)) ⌝ }
+{
+    let read = decode(bytes);
+    let stored = read.record;
+    refused_number(record_writer::encode(stored, out))
 }
