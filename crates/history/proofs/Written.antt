@@ -17,12 +17,12 @@ use Rattle.codec.proofs.File.{test-back}
 use Rattle.encode.specs.Encode.{testKind}
 use Rattle.readings.specs.declared.ReadingOption.{ReadingOption}
 use Rattle.readings.specs.declared.ReadingOption.the-variants as reading
-use Rattle.readings.specs.Readings.{orZero, isSome, readingAt}
+use Rattle.readings.specs.Readings.{orZero, isSome, flagSet, readingAt}
 use Rattle.history.specs.declared.StartOption.{StartOption}
 use Rattle.history.specs.declared.StartOption.the-variants as start
 use Rattle.history.specs.declared.Record.{Record}
 use Rattle.history.specs.Record.{startAt, flag, isDated, startMs, millis, flagsOf, headBytes, textBytes, tallyBytes, bodyBytes, recordBytes}
-use Rattle.history.specs.Decode.{begins, isWhole, flagSet, nameIn, summaryIn, recordIn, noRecord, readAs, decodeOf}
+use Rattle.history.specs.Decode.{begins, isWhole, nameIn, summaryIn, recordIn, noRecord, readAs, decodeOf}
 use Rattle.history.specs.RoundTrip.{RecordTyped}
 use Rattle.history.proofs.Bytes.{head-length, text-length, body-length, record-size}
 use Rattle.history.proofs.Laws.{by-check, long-name, record-read}

@@ -16,7 +16,7 @@ use Rattle.model.specs.declared.Test.the-variants as tests
 use Rattle.decode.specs.declared.TestOption.{TestOption}
 use Rattle.decode.specs.declared.TestOption.the-variants as testOption
 use Rattle.decode.specs.Decode.{testOf}
-use Rattle.readings.specs.Readings.{readingAt}
+use Rattle.readings.specs.Readings.{flagSet, readingAt}
 use Rattle.state.specs.declared.Summary.{Summary}
 use Rattle.start.specs.Start.{noSummary}
 use Rattle.history.specs.declared.StartOption.the-variants as start
@@ -103,9 +103,6 @@ isWhole s =
 -- What it holds.
 
 -- other flags are passed over
-abbrev pub flagSet : ℕ → ℕ → Bool
-flagSet flags value = eqb (flags / value % 2) 1
-
 abbrev pub isFlagged : List ℕ → ℕ → Bool
 isFlagged s value = flagSet (getD s flagsPlace 0) value
 

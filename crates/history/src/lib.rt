@@ -21,9 +21,9 @@
 ghost use mathlib.Core.Path.{_≡_};
 ghost use Prim.Native.Nat.{_≤_, _<_};
 ghost use lib.ListN.{length, getD};
-ghost use Rattle.readings.specs.Readings.{orZero, readingAt};
+ghost use Rattle.readings.specs.Readings.{orZero};
 ghost use Rattle.history.specs.Record.{startAt, startMs, RecordSize};
-ghost use Rattle.history.specs.Decode.{flagSet, begins, isWhole, nameIn, summaryIn, recordIn, noRecord, decodeOf};
+ghost use Rattle.history.specs.Decode.{begins, isWhole, nameIn, summaryIn, recordIn, noRecord, decodeOf};
 ghost use Rattle.history.specs.Samples.{Samples};
 ghost use Rattle.history.specs.RoundTrip.{RecordTyped, WrittenIsRead, ReadFits};
 use decode::TestOption;
@@ -32,6 +32,8 @@ use model::Test;
 use names::NAME_BYTES;
 use names::Name;
 use readings::ReadingOption;
+use readings::is_set;
+use readings::reading_at;
 use refusal::Answer;
 use refusal::Refusal;
 use state::Summary;
@@ -43,11 +45,11 @@ const VERSION_1: u8 = 1;
 const BODY_V1: usize = 66;
 
 // The flags.
-const FINISHED: u8 = 1;
+const FINISHED: u16 = 1;
 
-const DATED: u8 = 2;
+const DATED: u16 = 2;
 
-const MEASURED: u8 = 4;
+const MEASURED: u16 = 4;
 
 // When a ride started, UTC ms, if that is known.
 pub enum StartOption {
@@ -78,31 +80,19 @@ fn size_of(byte: u8) -> usize
     byte as usize
 }
 
-// Whether the flag of this value is among the flags.
-fn is_set(flags: u8, value: u8) -> bool
-    requires { ⌜ 1 ≤ value ⌝ }
-    ensures { λ r. ⌜ r ≡ flagSet flags value ⌝ }
+fn flags_of(byte: u8) -> u16
+    ensures { λ r. ⌜ r ≡ byte ⌝ }
 {
-    flags / value % 2 == 1
+    byte as u16
 }
 
-fn start_of(dated: bool, ms: u64) -> StartOption
+pub fn start_of(dated: bool, ms: u64) -> StartOption
     ensures { λ r. ⌜ r ≡ startAt dated ms ⌝ }
 {
     if dated {
         StartOption::Some(ms)
     } else {
         StartOption::None
-    }
-}
-
-fn ftp_of(measured: bool, watts: u16) -> ReadingOption
-    ensures { λ r. ⌜ r ≡ readingAt measured watts ⌝ }
-{
-    if measured {
-        ReadingOption::Some(watts)
-    } else {
-        ReadingOption::None
     }
 }
 
@@ -149,13 +139,13 @@ fn read_summary(bytes: &[u8]) -> Summary
     requires { ⌜ 70 ≤ length (now bytes) ⌝ }
     ensures { λ r. ⌜ r ≡ summaryIn (now (bytes .entry)) ⌝ }
 {
-    let flags = bytes[7];
+    let flags = flags_of(bytes[7]);
     Summary {
         targeted_ms: le::get_u32(bytes, 48) as u64,
         in_ms: le::get_u32(bytes, 52) as u64,
         under_ms: le::get_u32(bytes, 56) as u64,
         over_ms: le::get_u32(bytes, 60) as u64,
-        ftp: ftp_of(is_set(flags, MEASURED), le::get_u16(bytes, 64)),
+        ftp: reading_at(is_set(flags, MEASURED), le::get_u16(bytes, 64)),
         steps_done: le::get_u16(bytes, 42),
         steps: le::get_u16(bytes, 44),
         skipped: le::get_u16(bytes, 46),
@@ -170,7 +160,7 @@ fn read_record(bytes: &[u8], test: Test) -> Record
     Record {
         journal: bytes[6],
         ride_id: le::get_u32(bytes, 8),
-        started_utc_ms: start_of(is_set(bytes[7], DATED), le::get_u64(bytes, 12)),
+        started_utc_ms: start_of(is_set(flags_of(bytes[7]), DATED), le::get_u64(bytes, 12)),
         name: read_name(bytes),
         test,
         summary: read_summary(bytes),

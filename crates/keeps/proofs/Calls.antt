@@ -32,7 +32,7 @@ use Rattle.standing.specs.Facts.{Stands}
 use Rattle.standing.proofs.Known.{known, stands}
 use Rattle.rounds.specs.Rounds.{riding, rounds}
 use Rattle.rounds.proofs.Keeps.{next-stands}
-use Rattle.updates.specs.Updates.{Called, eventless, playerOf, withCore, totalled, rodeTo, rideBy, rideNow, addNow, skipTo, skipNow, withLap, longerBy, extendBy, notExtended, ExtraFits, Supposes}
+use Rattle.updates.specs.Updates.{Called, eventless, playerOf, withCore, totalled, rodeTo, rideBy, rideNow, addNow, skipTo, skipNow, withLap, longerCore, notLonger, extendedBy, longerBy, extendCore, extendBy, notExtended, ExtraFits, Supposes}
 use Rattle.player.specs.Calls.{updateAnswer, placesOk, rideOf, readBy, readAnswer, readOf, addOf, skipOf, extendNow, extendOf}
 use Rattle.updates.proofs.Laws.{totalled-stands, read-stands, read-supposes}
 use Rattle.player.proofs.Laws.{update-passed, ride-10, ride-refused, ride-taken, skip-14, skip-taken, extra-fits, add-10, add-11, add-refused, add-taken}
@@ -193,17 +193,17 @@ module _ (p : Player) (e : standingOf p ≡ true) (d : p .core .done ≡ false) 
       stands (withCore (withLap lap c) p) (record { core = lap-stands (p .workout) c lap (k .core) refl refl ok; note = k .note })
 
   by-kept : standingOf (extendBy 60 500 (p .core .on .length) p .player) ≡ true
-  unfolding extendBy
+  unfolding extendBy extendCore
   by-kept = at (p .core .on .length)
     where
       fits : ExtraFits (p .core) 60 500
       fits = extra-fits p e d
 
-      timed : (t : Bool) → leb (p .core .lap .«extra_s» + 60) 86400 ≡ t → standingOf (cond t (longerBy 60 0 p) (notExtended (Refused refusals.Extra) p) .player) ≡ true
+      timed : (t : Bool) → leb (p .core .lap .«extra_s» + 60) 86400 ≡ t → standingOf (extendedBy p (cond t (longerCore 60 0 (p .core)) (notLonger (Refused refusals.Extra) (p .core))) .player) ≡ true
       timed true t = longer-kept 60 0 (leb-true (p .core .lap .«extra_s» + 60) 86400 t) (omega (arith, fits .extra-m))
       timed false t = e
 
-      way : (t : Bool) → leb (p .core .lap .«extra_m» + 500) 1000000 ≡ t → standingOf (cond t (longerBy 0 500 p) (notExtended (Refused refusals.Extra) p) .player) ≡ true
+      way : (t : Bool) → leb (p .core .lap .«extra_m» + 500) 1000000 ≡ t → standingOf (extendedBy p (cond t (longerCore 0 500 (p .core)) (notLonger (Refused refusals.Extra) (p .core))) .player) ≡ true
       way true t = longer-kept 0 500 (omega (arith, fits .extra-s)) (leb-true (p .core .lap .«extra_m» + 500) 1000000 t)
       way false t = e
 

@@ -11,6 +11,7 @@ use Rattle.refusal.specs.declared.Answer.the-variants.{Accepted}
 use Rattle.refusal.specs.declared.Refusal.the-variants as refusals
 use Rattle.refusal.specs.declared.Invalid.the-variants as invalids
 use Rattle.refusal.specs.Number.{ask}
+use Rattle.model.specs.declared.Step.{Step}
 use Rattle.model.specs.declared.Workout.{Workout}
 use Rattle.model.specs.Workout.{emptyWorkout}
 use Rattle.form.specs.Form.{formOk}
@@ -23,9 +24,11 @@ use Rattle.standing.specs.Standing.{accepted, onPlace, coreOk, stepIs, standing
 use Rattle.standing.specs.Facts.{Stands}
 use Rattle.standing.proofs.Known.{stands}
 use Rattle.rounds.proofs.Keeps.{same-itself, fresh-below}
+use Rattle.rounds.specs.Rounds.{riding}
+use Rattle.updates.specs.Updates.{playerOf}
 use Rattle.start.specs.Start.{freshCore, fresh}
 use Rattle.keeps.specs.Keeps.{KeepsStanding}
-use Rattle.keeps.proofs.Notes.{name-itself}
+use Rattle.keeps.proofs.Notes.{name-itself, step-here}
 use Rattle.keeps.proofs.Calls.{plays, read-kept, skip-kept, ride-kept, add-kept, extend-kept}
 
 module _ (w : Workout) (twelve : length (w .steps) ≡ 12) (e : workoutAnswer w ≡ Accepted) where
@@ -71,6 +74,13 @@ module _ (w : Workout) (twelve : length (w .steps) ≡ 12) (e : workoutAnswer w 
   fresh-stands : standingOf (fresh w) ≡ true
   unfolding fresh onPlace
   fresh-stands = stands (fresh w) (record { core = core-stands; note = name-itself (playedOf w 0 .played .step .note) })
+
+  -- a fresh player is that of its core: its note is the one that is looked up
+  pub fresh-made : fresh w ≡ playerOf w (riding (fresh w .core) (fresh w .minute))
+  unfolding fresh onPlace
+  fresh-made =
+      ap (λ (s : Step). record { core = fresh w .core; workout = w; note = s .note; minute = fresh w .minute })
+      (sym (step-here 0 0 w (fresh w .core) (core-stands .within) some))
 
 -- no step: 6, or 5
 empty-refused : (t : Bool) (rest : Answer) → accepted (ask t refusals.Field (ask false (refusals.Invalid invalids.NoSteps) rest)) ≡ false

@@ -74,10 +74,10 @@ module _ (x y : ℕ) (w : Workout) (c : Core) (h : Within x y w c) (some : 0 < p
       at true e = omega (arith, h .position)
       at false e = leb-false (playedLen w) (c .position) (sym (h .done) ∙ e)
 
-  -- the note that is looked up by the index of the step on now
-  pub note-here : sameName (getD (w .steps) (c .on .index) noStep .note) (playedOf w (onPlace c) .played .step .note) ≡ true
+  -- the step that is looked up by the index of the step on now
+  pub step-here : getD (w .steps) (c .on .index) noStep ≡ playedOf w (onPlace c) .played .step
   unfolding playedOf
-  note-here =
+  step-here =
       let n = onPlace c in
       let v = passes w (h .valid) in
       let t : playedOf w n .found ≡ true = playing-order .played-below w (v .blocks) n ∙ lt-ltb n (playedLen w) shown-below in
@@ -85,6 +85,10 @@ module _ (x y : ℕ) (w : Workout) (c : Core) (h : Within x y w c) (some : 0 < p
       let i = playedOf w n .played .index in
       let index : c .on .index ≡ i = same-index (c .on) (stepNow (playedOf w n .played)) (h .step) in
       let below : i < w .«step_count» = omega (arith, s .0, length-take (w .«step_count») (w .steps)) in
-      let step : getD (w .steps) (c .on .index) noStep ≡ playedOf w n .played .step =
-      ap (λ (k : ℕ). getD (w .steps) k noStep) index ∙ sym (getD-take (w .«step_count») (w .steps) i noStep below) ∙ sym (s .1) in
-      subst (λ (m : Step). sameName (getD (w .steps) (c .on .index) noStep .note) (m .note) ≡ true) step (name-itself (getD (w .steps) (c .on .index) noStep .note))
+      ap (λ (k : ℕ). getD (w .steps) k noStep) index ∙ sym (getD-take (w .«step_count») (w .steps) i noStep below) ∙ sym (s .1)
+
+  -- and its note
+  pub note-here : sameName (getD (w .steps) (c .on .index) noStep .note) (playedOf w (onPlace c) .played .step .note) ≡ true
+  note-here =
+      let note = getD (w .steps) (c .on .index) noStep .note in
+      subst (λ (m : Step). sameName note (m .note) ≡ true) step-here (name-itself note)

@@ -30,7 +30,7 @@ use Rattle.rounds.specs.Rounds.{Riding, riding, Rode, ridingOf, rounds}
 use Rattle.standing.specs.Standing.{standingOf, cadenceIn}
 use Rattle.updates.specs.declared.Update.{Update}
 use Rattle.player.specs.Calls as player
-use Rattle.updates.specs.Updates.{Called, eventless, playerOf, withCore, totalled, rideBy, rideNow, skipTo, skipNow, notExtended, longerBy, extendBy}
+use Rattle.updates.specs.Updates.{Called, eventless, playerOf, withCore, totalled, rideBy, rideNow, skipTo, skipNow, notExtended, longerCore, notLonger, extendedBy, longerBy, extendCore, extendBy}
 use Rattle.player.specs.Calls.{answered, updateAnswer, rideAnswer, rideOf, readAnswer, readBy, readOf, skipAnswer, skipOf, extendNow, extendOf}
 use Rattle.machine.specs.Machine.{Machine, stepAt, reading, extraIn, extraAfter, withExtra, skipped, milliseconds}
 use Rattle.machine.specs.Cutting.{read, skip, extend, Piece}
@@ -202,7 +202,7 @@ module _ (w : Workout) (p : TrainingProfile) (T : Taken w) (ok : profileOk p ≡
         }
 
     longer-by : (t : Step) (secs : ℕ) (b : Bool) → stepAt w (m .position) ≡ some t
-        → Goes w k (ofExtend (cond b (longerBy secs 0 q) (notExtended (Refused refusals.Extra) q))) (ask b refusals.Extra Accepted)
+        → Goes w k (ofExtend (extendedBy q (cond b (longerCore secs 0 (q .core)) (notLonger (Refused refusals.Extra) (q .core))))) (ask b refusals.Extra Accepted)
         (unlessRefused (ask b refusals.Extra Accepted) s (withExtra (some (m .extra + secs)) m))
     unfolding unlessRefused
     longer-by t secs true e =
@@ -211,10 +211,10 @@ module _ (w : Workout) (p : TrainingProfile) (T : Taken w) (ok : profileOk p ≡
 
     extend-in : (l : Length) (t : Step) (secs metres : ℕ) → Lasting l → stepAt w (m .position) ≡ some t
         → Goes w k (ofExtend (extendBy secs metres l q)) (extraAsks (extraIn l secs (m .extra))) (unlessRefused (extraAsks (extraIn l secs (m .extra))) s (withExtra (extraIn l secs (m .extra)) m))
-    unfolding extendBy
+    unfolding extendBy extendCore
     extend-in (Time time) t secs metres y e =
         goes-by k
-        (ap (λ (z : ℕ). ofExtend (cond (leb (z + secs) 86400) (longerBy secs 0 q) (notExtended (Refused refusals.Extra) q))) (R .alike .matches .extra))
+        (ap (λ (z : ℕ). ofExtend (extendedBy q (cond (leb (z + secs) 86400) (longerCore secs 0 (q .core)) (notLonger (Refused refusals.Extra) (q .core))))) (R .alike .matches .extra))
         (longer-by t secs (leb (m .extra + secs) 86400) e)
     extend-in (Distance way) t secs metres y e = absurd y
     extend-in Open t secs metres y e = unfold unlessRefused withExtra in idle k Accepted q (record { machine = m; totals = s .totals }) R

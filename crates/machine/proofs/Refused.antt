@@ -18,7 +18,7 @@ use Rattle.step_end.specs.StepEnd.{nextOf}
 use Rattle.rounds.specs.Rounds.{Rode, riding, rounds}
 use Rattle.standing.specs.Standing.{standingOf}
 use Rattle.updates.specs.declared.Extended.{Extended}
-use Rattle.updates.specs.Updates.{Called, eventless, totalled, rideBy, rideNow, skipTo, skipNow, notExtended, longerBy, extendBy}
+use Rattle.updates.specs.Updates.{Called, eventless, totalled, rideBy, rideNow, skipTo, skipNow, notExtended, longerCore, notLonger, extendedBy, extendCore, extendBy}
 use Rattle.player.specs.Calls.{answered, rideAnswer, rideOf, readAnswer, readBy, readOf, skipAnswer, skipOf, extendNow, extendOf}
 use Rattle.machine.specs.Cutting.{read, ride, skip, extend}
 use Rattle.machine.specs.Runs.{ofRead, ofExtend, called}
@@ -58,12 +58,12 @@ module _ (q : Player) (r : Refusal) where
   abbrev Extends : Extended → Type 0
   Extends x = x .answer ≡ Refused r → Stays q (ofExtend x)
 
-  longer-stays : (t : Bool) (secs metres : ℕ) → Extends (cond t (longerBy secs metres q) (notExtended (Refused refusals.Extra) q))
+  longer-stays : (t : Bool) (secs metres : ℕ) → Extends (extendedBy q (cond t (longerCore secs metres (q .core)) (notLonger (Refused refusals.Extra) (q .core))))
   longer-stays true secs metres h = absurd (taken r h)
   longer-stays false secs metres h = (refl, refl)
 
   extend-by-stays : (secs metres : ℕ) (l : Length) → Extends (extendBy secs metres l q)
-  unfolding extendBy
+  unfolding extendBy extendCore
   extend-by-stays secs metres (Time time) h = longer-stays (leb (q .core .lap .«extra_s» + secs) 86400) secs 0 h
   extend-by-stays secs metres (Distance way) h = longer-stays (leb (q .core .lap .«extra_m» + metres) 1000000) 0 metres h
   extend-by-stays secs metres Open h = (refl, refl)

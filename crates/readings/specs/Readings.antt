@@ -2,7 +2,7 @@
 use mathlib.Core.Bool.{Bool, true, false, cond}
 use mathlib.Core.List.{List, [], _∷_, map}
 use Prim.Native.Nat.{ℕ, zero, suc, _+_, _/_, _%_}
-use lib.Dec.{ltb}
+use lib.Dec.{ltb, eqb}
 use lib.ListN.{set, replicate}
 use Rattle.common.specs.Lists.{sum}
 use Rattle.zones.specs.declared.TrainingProfile.{TrainingProfile}
@@ -34,6 +34,10 @@ abbrev pub isSome : ReadingOption → Bool
 isSome None = false
 isSome (Some value) = true
 
+-- Whether the flag of this value is among the flags.
+abbrev pub flagSet : ℕ → ℕ → Bool
+flagSet flags value = eqb (flags / value % 2) 1
+
 -- The average.
 
 abbrev pub noSample : Sample
@@ -50,7 +54,7 @@ abbrev pub onePresent : Bool → ℕ
 onePresent present = cond present 1 0
 
 abbrev pub readingAt : Bool → ℕ → ReadingOption
-readingAt present watts = cond present (Some watts) None
+readingAt present value = cond present (Some value) None
 
 -- The readings of a window, absent ones too, in the order of its places.
 unfoldable pub window : List Bool → List ℕ → List ReadingOption

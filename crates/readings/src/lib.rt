@@ -3,7 +3,7 @@ ghost use mathlib.Core.Path.{_≡_};
 ghost use mathlib.Core.Bool.{cond};
 ghost use Prim.Native.Nat.{_*_, _≤_, min, max};
 ghost use Rattle.zones.specs.Zones.{clamped};
-ghost use Rattle.readings.specs.Readings.{orZero, isSome, onePresent, added, meanBy, averageOf, perMinute, readingOf, against, compared, judged, complianceOf, taken, noReadings};
+ghost use Rattle.readings.specs.Readings.{orZero, isSome, flagSet, readingAt, onePresent, added, meanBy, averageOf, perMinute, readingOf, against, compared, judged, complianceOf, taken, noReadings};
 use model::Band;
 use model::BandOption;
 use model::Metric;
@@ -89,6 +89,25 @@ impl ReadingOption {
             ReadingOption::None => false,
             ReadingOption::Some(_) => true,
         }
+    }
+}
+
+// Whether the flag of this value is among the flags.
+pub fn is_set(flags: u16, value: u16) -> bool
+    requires { ⌜ 1 ≤ value ⌝ }
+    ensures { λ r. ⌜ r ≡ flagSet flags value ⌝ }
+{
+    flags / value % 2 == 1
+}
+
+// A reading where its flag says that it is present.
+pub fn reading_at(present: bool, value: u16) -> ReadingOption
+    ensures { λ r. ⌜ r ≡ readingAt present value ⌝ }
+{
+    if present {
+        ReadingOption::Some(value)
+    } else {
+        ReadingOption::None
     }
 }
 

@@ -2,7 +2,7 @@
 ghost use mathlib.Core.Path.{_≡_};
 ghost use mathlib.Core.Bool.{true};
 ghost use Prim.Native.Nat.{_≤_};
-ghost use lib.ListN.{length, take};
+ghost use lib.ListN.{length};
 ghost use Rattle.le.specs.Le.{written};
 ghost use Rattle.names.specs.Names.{nameOk};
 ghost use Rattle.history.specs.Record.{isDated, startMs, flag, flagsOf, millis, bodyBytes, recordBytes};
@@ -95,18 +95,6 @@ fn put_ride(out: &mut [u8], stored: Record)
     le::put_u8(out, 20, name.len);
 }
 
-// The name's 20 places.
-fn put_text(out: &mut [u8], text: [u8; 20])
-    requires { ⌜ 70 ≤ length (now out) ⌝ }
-    ensures { λ _. ⌜ now (out .exit) ≡ written (now (out .entry)) 21 (take 20 text) ⌝ }
-{
-    let mut i = 0;
-    while i < 20 {
-        out[21 + i] = text[i];
-        i += 1;
-    }
-}
-
 // Test and steps.
 fn put_counts(out: &mut [u8], test: Test, summary: Summary)
     requires { ⌜ 70 ≤ length (now out) ⌝ }
@@ -144,7 +132,7 @@ fn put_body(out: &mut [u8], stored: Record)
     let summary = stored.summary;
     put_first(out);
     put_ride(out, stored);
-    put_text(out, text);
+    step_writer::put_text(out, 21, text, 20);
     put_counts(out, test, summary);
     put_times(out, summary);
 }

@@ -190,6 +190,7 @@ module _ (w : Workout) (p : TrainingProfile) where
         wrote =
             subst (λ (es : List Event). Wrote ks vs (start .count) ks' vs' (s .count) es)
             (sym (append-nil (a .so-far)) ∙ sym (ap (λ (k : Rode). a .so-far ++ k .events) e) ∙ a .events-are) (a .wrote);
+        sixty = a .minute;
       }
 
   pub at-stopped : {m ks vs m' ks' vs' : List ℕ} {start s : Ride} (i : ℕ) → At m ks vs start i m' ks' vs' s

@@ -3,6 +3,7 @@ use mathlib.Core.Path.{_≡_}
 use mathlib.Core.Bool.{false}
 use mathlib.Core.List.{List}
 use Prim.Native.Nat.{ℕ, _+_, _-_, _*_, _≤_}
+use lib.ListN.{length}
 use Rattle.zones.specs.declared.TrainingProfile.{TrainingProfile}
 use Rattle.model.specs.declared.Workout.{Workout}
 use Rattle.order.specs.Order.{playedLen}
@@ -43,8 +44,9 @@ pub record Round (w : Workout) (p : TrainingProfile) (m m' ks vs ks' vs' : List 
   pub wrote : Wrote ks vs (s .count) ks' vs' (r .count) (roundOf w p (partOf s) (riding (s .core) m) .events)
   pub energy : r .core .measured .«test_mj» ≤ 65535 * r .core .measured .«test_ms»
 
--- The ride after the loop.
+-- The ride after the loop. The minute still has its 60 places.
 pub record Ridden (w : Workout) (p : TrainingProfile) (m m' ks vs ks' vs' : List ℕ) (s r : Ride) : Type 0 where
   pub riding-is : riding (r .core) m' ≡ ridingOf (rounds w p 97 (s .ms .0) (s .mm .0) (riding (s .core) m))
   pub parts : r .parts ≡ s .parts + rounds w p 97 (s .ms .0) (s .mm .0) (riding (s .core) m) .parts
   pub wrote : Wrote ks vs (s .count) ks' vs' (r .count) (rounds w p 97 (s .ms .0) (s .mm .0) (riding (s .core) m) .events)
+  pub sixty : length m' ≡ 60

@@ -122,7 +122,7 @@ fn put_fixed(out: &mut [u8], at: usize, intensity: Intensity, lasts: Length, tar
 }
 
 // The first `n` of 20 bytes.
-fn put_text(out: &mut [u8], at: usize, text: [u8; 20], n: usize)
+pub fn put_text(out: &mut [u8], at: usize, text: [u8; 20], n: usize)
     requires { ⌜ (n ≤ 20) × (at + n ≤ length (now out)) ⌝ }
     ensures { λ _. ⌜ now (out .exit) ≡ written (now (out .entry)) at (take n text) ⌝ }
 {

@@ -25,7 +25,7 @@ use Rattle.rounds.specs.Contracted.{Rides, Ridden}
 use Rattle.standing.specs.Standing.{onPlace, cadenceIn}
 use Rattle.standing.specs.Facts.{Within, Stands}
 use Rattle.updates.specs.declared.Update.{Update}
-use Rattle.updates.specs.Updates.{Called, Answers, Supposes, withCore, addNow, eventlessUpdate, eventless, playerOf, totalled, rideBy, rodeTo, rideNow, skipTo, skipNow}
+use Rattle.updates.specs.Updates.{Called, Answers, Supposes, withCore, addNow, eventlessUpdate, eventless, playerOf, totalled, begun, rideBy, rodeTo, rideNow, skipTo, skipNow}
 
 -- a call without events
 pub eventless-answers : (ks vs : List ℕ) (p : Player) (u : Update) (o : Called) (a : Answer) → u ≡ eventlessUpdate a p → eventless a p ≡ o → Answers ks vs ks vs u o
@@ -74,7 +74,7 @@ totalled-stands w c ms mm s a b =
 
 -- a ride's start
 pub start-rides : (w : Workout) (c : Core) (ms mm k v : ℕ) → Supposes w c ms mm k v
-    → Rides w (record { core = totalled ms mm c; ms = record { 0 = ms }; mm = record { 0 = mm }; count = 0; parts = 0 }) k v
+    → Rides w (begun c ms mm) k v
 start-rides w c ms mm k v s =
     let few : playedLen w ≤ 96 = passes w (s .stands .within .valid) .most in
     record {
@@ -98,7 +98,7 @@ module _ (p : Player) (ms mm : ℕ) (f : TrainingProfile) where
       sym (ap (λ (b : Bool). rideBy b p (rounds (p .workout) f 97 ms mm (riding (totalled ms mm (p .core)) (p .minute)))) (ne-eqb ms 0 e))
 
   pub ride-made : {m' ks vs ks' vs' : List ℕ} (r : Ride) (q : Player) → (ms ≡ 0 → ⊥)
-      → Ridden (p .workout) f (p .minute) m' ks vs ks' vs' (record { core = totalled ms mm (p .core); ms = record { 0 = ms }; mm = record { 0 = mm }; count = 0; parts = 0 }) r
+      → Ridden (p .workout) f (p .minute) m' ks vs ks' vs' (begun (p .core) ms mm) r
       → q ≡ playerOf (p .workout) (riding (r .core) m')
       → Answers ks vs ks' vs' (record { answer = Accepted; player = q; events = r .count; parts = r .parts }) (rideNow p ms mm f)
   ride-made {m' = m'} {ks = ks} {vs = vs} {ks' = ks'} {vs' = vs'} r q e o eq =

@@ -20,10 +20,12 @@ use Rattle.state.specs.declared.Core.{Core}
 use Rattle.state.specs.declared.Player.{Player}
 use Rattle.state.specs.State.{readCore, extendedLap}
 use Rattle.step_end.specs.StepEnd.{Outcome, nextOf}
+use Rattle.rounds.specs.declared.Ride.{Ride}
 use Rattle.rounds.specs.Rounds.{Riding, riding, Rode, ridingOf, rounds}
 use Rattle.standing.specs.Facts.{Stands}
 use Rattle.updates.specs.declared.Update.{Update}
 use Rattle.updates.specs.declared.Extended.{Extended}
+use Rattle.updates.specs.declared.ExtendedCore.{ExtendedCore}
 
 -- What a call gives, its events as a list.
 pub record Called : Type 0 where
@@ -71,6 +73,10 @@ totalled ms mm c =
       done = c .done;
     }
 
+-- A ride at its start, with all of it still to be ridden.
+abbrev pub begun : Core → ℕ → ℕ → Ride
+begun c ms mm = record { core = totalled ms mm c; ms = record { 0 = ms }; mm = record { 0 = mm }; count = 0; parts = 0 }
+
 abbrev pub rodeTo : Workout → Rode → Called
 rodeTo w r = record { answer = Accepted; player = playerOf w (ridingOf r); events = r .events; parts = r .parts }
 
@@ -114,20 +120,31 @@ withLap lap c =
       done = c .done;
     }
 
-abbrev pub longerBy : ℕ → ℕ → Player → Extended
-longerBy secs metres p =
-    record { answer = Accepted; player = withCore (withLap (extendedLap secs metres (p .core .lap)) (p .core)) p; extended = true }
+abbrev pub notLonger : Answer → Core → ExtendedCore
+notLonger answer c = record { answer = answer; core = c; extended = false }
+
+abbrev pub longerCore : ℕ → ℕ → Core → ExtendedCore
+longerCore secs metres c = record { answer = Accepted; core = withLap (extendedLap secs metres (c .lap)) c; extended = true }
 
 -- "Extend of an unfinished timed or distance step: its extra at most 86,400 s or 1,000,000 m after it? 15. Open .. gives `false`, no
 -- refusal."
-unfoldable pub extendBy : ℕ → ℕ → Length → Player → Extended
-extendBy secs metres (Time time) p =
-    cond (leb (p .core .lap .«extra_s» + secs) 86400) (longerBy secs 0 p) (notExtended (Refused refusals.Extra) p)
-extendBy secs metres (Distance way) p =
-    cond (leb (p .core .lap .«extra_m» + metres) 1000000) (longerBy 0 metres p) (notExtended (Refused refusals.Extra) p)
-extendBy secs metres Open p = notExtended Accepted p
+unfoldable pub extendCore : ℕ → ℕ → Length → Core → ExtendedCore
+extendCore secs metres (Time time) c =
+    cond (leb (c .lap .«extra_s» + secs) 86400) (longerCore secs 0 c) (notLonger (Refused refusals.Extra) c)
+extendCore secs metres (Distance way) c =
+    cond (leb (c .lap .«extra_m» + metres) 1000000) (longerCore 0 metres c) (notLonger (Refused refusals.Extra) c)
+extendCore secs metres Open c = notLonger Accepted c
 
--- What `extend_by` supposes: extras within their limits.
+abbrev pub extendedBy : Player → ExtendedCore → Extended
+extendedBy p r = record { answer = r .answer; player = withCore (r .core) p; extended = r .extended }
+
+abbrev pub longerBy : ℕ → ℕ → Player → Extended
+longerBy secs metres p = extendedBy p (longerCore secs metres (p .core))
+
+unfoldable pub extendBy : ℕ → ℕ → Length → Player → Extended
+extendBy secs metres length p = extendedBy p (extendCore secs metres length (p .core))
+
+-- What `extend_core` supposes: extras within their limits.
 pub record ExtraFits (c : Core) (secs metres : ℕ) : Type 0 where
   pub extra-s : c .lap .«extra_s» ≤ 86400
   pub extra-m : c .lap .«extra_m» ≤ 1000000

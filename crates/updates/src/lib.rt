@@ -6,8 +6,9 @@ ghost use Prim.Native.Nat.{_+_, _≤_};
 ghost use lib.ListN.{length, getD};
 ghost use Rattle.model.specs.Workout.{noStep};
 ghost use Rattle.rounds.specs.Rounds.{riding};
+ghost use Rattle.rounds.specs.Contracted.{Ridden};
 ghost use Rattle.standing.specs.Standing.{cadenceIn};
-ghost use Rattle.updates.specs.Updates.{eventlessUpdate, playerOf, totalled, withCore, rideNow, skipNow, notExtended, longerBy, extendBy, ExtraFits, addNow, Answers, Supposes};
+ghost use Rattle.updates.specs.Updates.{eventlessUpdate, playerOf, totalled, withCore, begun, rideNow, skipNow, notExtended, notLonger, longerCore, extendCore, extendBy, ExtraFits, addNow, Answers, Supposes};
 use model::Length;
 use model::Step;
 use model::Workout;
@@ -39,6 +40,13 @@ pub struct Extended {
     pub extended: bool,
 }
 
+// The same of a core.
+pub struct ExtendedCore {
+    pub answer: Answer,
+    pub core: Core,
+    pub extended: bool,
+}
+
 // A call without events or parts.
 pub fn plain(player: Player, answer: Answer) -> Update
     ensures { λ r. ⌜ r ≡ eventlessUpdate answer player ⌝ }
@@ -63,7 +71,7 @@ fn note_at(steps: [Step; 12], index: u8) -> Name
 }
 
 // The player of a core and its minute; the note is that of the step on now.
-fn player_of(workout: Workout, core: Core, minute: [u16; 60]) -> Player
+pub fn player_of(workout: Workout, core: Core, minute: [u16; 60]) -> Player
     ensures { λ r. ⌜ r ≡ playerOf workout (riding core minute) ⌝ }
 {
     let on = core.on;
@@ -97,6 +105,30 @@ fn add_totals(core: Core, ms: Ms, mm: Mm) -> Core
     q
 }
 
+// The loop of a ride of which nothing is to be asked any more, on the core and its minute.
+pub fn ride_core(
+    workout: Workout,
+    core: Core,
+    ms: Ms,
+    mm: Mm,
+    profile: TrainingProfile,
+    minute: &mut [u16; 60],
+    kinds: &mut [u8],
+    values: &mut [u16],
+) -> Ride
+    requires { ⌜ Supposes workout core (ms .0) (mm .0) (length (now kinds)) (length (now values)) × (length (now minute) ≡ 60) ⌝ }
+    ensures { λ r. ⌜ Ridden workout profile (now (minute .entry)) (now (minute .exit)) (now (kinds .entry)) (now (values .entry)) (now (kinds .exit)) (now (values .exit)) (begun core (ms .0) (mm .0)) r ⌝ }
+{
+    let start = Ride {
+        core: add_totals(core, ms, mm),
+        ms,
+        mm,
+        count: 0,
+        parts: 0,
+    };
+    ride_rounds(workout, profile, start, minute, kinds, values)
+}
+
 // A ride of which nothing is to be asked any more.
 pub fn ride_now(
     player: Player,
@@ -115,15 +147,7 @@ pub fn ride_now(
     let workout = player.workout;
     let core = player.core;
     let mut minute = player.minute;
-    let begun = add_totals(core, ms, mm);
-    let start = Ride {
-        core: begun,
-        ms,
-        mm,
-        count: 0,
-        parts: 0,
-    };
-    let ride = ride_rounds(workout, profile, start, &mut minute, kinds, values);
+    let ride = ride_core(workout, core, ms, mm, profile, &mut minute, kinds, values);
     let after = ride.core;
     let ridden = player_of(workout, after, minute);
     Update {
@@ -187,45 +211,69 @@ pub fn not_extended(player: Player, answer: Answer) -> Extended
     }
 }
 
-// The player with `secs` and `metres` more in the step on now.
-fn longer(player: Player, secs: u32, metres: u32) -> Extended
-    requires { ⌜ (player .core .lap .«extra_s» + secs ≤ 86400) × (player .core .lap .«extra_m» + metres ≤ 1000000) ⌝ }
-    ensures { λ r. ⌜ r ≡ longerBy secs metres player ⌝ }
+fn core_as_before(core: Core, answer: Answer) -> ExtendedCore
+    ensures { λ r. ⌜ r ≡ notLonger answer core ⌝ }
 {
-    let core = player.core;
+    ExtendedCore {
+        answer,
+        core,
+        extended: false,
+    }
+}
+
+// The core with `secs` and `metres` more in the step on now.
+fn longer(core: Core, secs: u32, metres: u32) -> ExtendedCore
+    requires { ⌜ (core .lap .«extra_s» + secs ≤ 86400) × (core .lap .«extra_m» + metres ≤ 1000000) ⌝ }
+    ensures { λ r. ⌜ r ≡ longerCore secs metres core ⌝ }
+{
     let lap = core.lap;
     let more = lap.extended(secs, metres);
     let mut c = core;
     c.lap = more;
-    Extended {
+    ExtendedCore {
         answer: Answer::Accepted,
-        player: with_core(player, c),
+        core: c,
         extended: true,
     }
 }
 
 // A touch of which only question 15 is to be asked: `secs` more of a timed step, `metres` more of a distance step.
-pub fn extend_by(player: Player, secs: u32, metres: u32) -> Extended
-    requires { ⌜ ExtraFits (player .core) secs metres ⌝ }
-    ensures { λ r. ⌜ r ≡ extendBy secs metres (player .core .on .length) player ⌝ }
+pub fn extend_core(core: Core, secs: u32, metres: u32) -> ExtendedCore
+    requires { ⌜ ExtraFits core secs metres ⌝ }
+    ensures { λ r. ⌜ r ≡ extendCore secs metres (core .on .length) core ⌝ }
 {
-    let core = player.core;
     let lap = core.lap;
     let on = core.on;
     let length = on.length;
     match length {
         Length::Time(_) => {
             if lap.extra_s + secs <= 86400 {
-                return longer(player, secs, 0);
+                return longer(core, secs, 0);
             }
-            not_extended(player, Answer::Refused(Refusal::Extra))
+            core_as_before(core, Answer::Refused(Refusal::Extra))
         }
         Length::Distance(_) => {
             if lap.extra_m + metres <= 1000000 {
-                return longer(player, 0, metres);
+                return longer(core, 0, metres);
             }
-            not_extended(player, Answer::Refused(Refusal::Extra))
+            core_as_before(core, Answer::Refused(Refusal::Extra))
         }
-        Length::Open => not_extended(player, Answer::Accepted),
+        Length::Open => core_as_before(core, Answer::Accepted),
+    }
+}
+
+// The same of a player.
+pub fn extend_by(player: Player, secs: u32, metres: u32) -> Extended
+    requires { ⌜ ExtraFits (player .core) secs metres ⌝ }
+    ensures { λ r. ⌜ r ≡ extendBy secs metres (player .core .on .length) player ⌝ }
+{
+    let core = player.core;
+    let touched = extend_core(core, secs, metres);
+    let answer = touched.answer;
+    let after = touched.core;
+    Extended {
+        answer,
+        player: with_core(player, after),
+        extended: touched.extended,
     }
 }

@@ -1,6 +1,6 @@
 -- `compare::compare_answer` gives a word of the answer: one arm a question, and 0 past them.
 use borrow.Author.Needs.{needs}
-use Rattle.compare.proofs.Words.{past, at-least}
+use Rattle.common.proofs.Matches.{past, at-least}
 use Rattle.compare.specs.Answers.{answers, answerWord}
 use Rattle.compare.proofs.compare_answer.Statement.{statement}
 use Rattle.compare.proofs.compare_answer.Tie as tie

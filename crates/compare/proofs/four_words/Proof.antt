@@ -1,7 +1,7 @@
 -- `compare::four_words` gives the word at a place: one arm a word, and 0 past them.
 use mathlib.Core.List.{[], _∷_}
 use borrow.Author.Needs.{needs}
-use Rattle.compare.proofs.Words.{past, at-least}
+use Rattle.common.proofs.Matches.{past, at-least}
 use Rattle.compare.specs.Answers.{fourWords}
 use Rattle.compare.proofs.four_words.Statement.{statement}
 use Rattle.compare.proofs.four_words.Tie as tie

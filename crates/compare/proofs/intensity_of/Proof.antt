@@ -1,5 +1,5 @@
 -- `compare::intensity_of` gives the intensity of a number: one arm a kind, and the last kind past them.
-use Rattle.compare.proofs.Words.{past, at-least}
+use Rattle.common.proofs.Matches.{past, at-least}
 use Rattle.compare.specs.Input.{intensityKinds, intensityOf}
 use Rattle.model.specs.declared.Intensity.the-variants.{Test}
 use Rattle.compare.proofs.intensity_of.Statement.{statement}

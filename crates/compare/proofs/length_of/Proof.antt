@@ -1,6 +1,6 @@
 -- `compare::length_of` gives the length of a kind and a value: one arm a kind, and the last kind past them.
 use borrow.Author.Needs.{needs}
-use Rattle.compare.proofs.Words.{past, at-least}
+use Rattle.common.proofs.Matches.{past, at-least}
 use Rattle.compare.specs.Input.{lengthKinds, lengthOf}
 use Rattle.model.specs.declared.Length.the-variants.{Open}
 use Rattle.compare.proofs.length_of.Statement.{statement}

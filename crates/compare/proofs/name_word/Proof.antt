@@ -4,7 +4,8 @@ use Prim.Native.Nat.{_-_}
 use native.Mathlib.Omega.{arith}
 use lib.ListN.{length}
 use borrow.Author.Needs.{needs}
-use Rattle.compare.proofs.Words.{past, behind}
+use Rattle.common.proofs.Matches.{past}
+use Rattle.compare.proofs.Words.{behind}
 use Rattle.compare.proofs.name_word.Statement.{statement}
 use Rattle.compare.proofs.name_word.Tie as tie
 

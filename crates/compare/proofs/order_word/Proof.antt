@@ -2,7 +2,7 @@
 use mathlib.Core.Path.{_∙_, ap}
 use Prim.Native.Nat.{ℕ, _-_, _%_}
 use borrow.Author.Needs.{needs}
-use Rattle.compare.proofs.Words.{past, at-least}
+use Rattle.common.proofs.Matches.{past, at-least}
 use Rattle.compare.specs.Answers.{orderFacts, orderWord, playedWord}
 use Rattle.order.specs.Order.{playedOf}
 use Rattle.compare.proofs.order_word.Statement.{statement}

@@ -1,6 +1,6 @@
 -- `compare::target_of` gives the target of a kind and its values: one arm a kind, and the last kind past them.
 use borrow.Author.Needs.{needs}
-use Rattle.compare.proofs.Words.{past, at-least}
+use Rattle.common.proofs.Matches.{past, at-least}
 use Rattle.compare.specs.Input.{targetKinds, targetOf}
 use Rattle.compare.proofs.target_of.Statement.{statement}
 use Rattle.compare.proofs.target_of.Tie as tie

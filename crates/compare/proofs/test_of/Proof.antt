@@ -1,5 +1,5 @@
 -- `compare::test_of` gives the test of a number: one arm a kind, and the last kind past them.
-use Rattle.compare.proofs.Words.{past, at-least}
+use Rattle.common.proofs.Matches.{past, at-least}
 use Rattle.compare.specs.Input.{testKinds, testOf}
 use Rattle.model.specs.declared.Test.the-variants.{Ramp}
 use Rattle.compare.proofs.test_of.Statement.{statement}

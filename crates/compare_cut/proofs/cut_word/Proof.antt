@@ -4,7 +4,7 @@ use mathlib.Core.List.{[], _∷_}
 use Prim.Native.Nat.{ℕ, _+_}
 use lib.ListN.{getD}
 use borrow.Author.Needs.{needs}
-use Rattle.compare.proofs.Words.{past, at-least}
+use Rattle.common.proofs.Matches.{past, at-least}
 use Rattle.compare_reports.specs.Words.{seenWord}
 use Rattle.compare_cut.specs.Cuts.{cutWord}
 use Rattle.compare_cut.proofs.cut_word.Statement.{statement}

@@ -1,6 +1,6 @@
 -- `compare_fields::set_core` sets a field of one of the core's groups.
 use borrow.Author.Needs.{needs}
-use Rattle.compare.proofs.Words.{past, at-least}
+use Rattle.common.proofs.Matches.{past, at-least}
 use Rattle.compare_fields.specs.Fields.{firstCore, lastCore, setCore}
 use Rattle.compare_fields.proofs.set_core.Statement.{statement}
 use Rattle.compare_fields.proofs.set_core.Tie as tie

@@ -1,6 +1,6 @@
 -- `compare_fields::set_lap` sets one of the step's amounts.
 use borrow.Author.Needs.{needs}
-use Rattle.compare.proofs.Words.{past, at-least}
+use Rattle.common.proofs.Matches.{past, at-least}
 use Rattle.compare_fields.specs.Fields.{firstLap, lastLap, setLap}
 use Rattle.compare_fields.proofs.set_lap.Statement.{statement}
 use Rattle.compare_fields.proofs.set_lap.Tie as tie

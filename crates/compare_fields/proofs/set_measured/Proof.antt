@@ -1,6 +1,6 @@
 -- `compare_fields::set_measured` sets one of the tests' numbers.
 use borrow.Author.Needs.{needs}
-use Rattle.compare.proofs.Words.{past, at-least}
+use Rattle.common.proofs.Matches.{past, at-least}
 use Rattle.compare_fields.specs.Fields.{firstMeasured, lastMeasured, setMeasured}
 use Rattle.compare_fields.proofs.set_measured.Statement.{statement}
 use Rattle.compare_fields.proofs.set_measured.Tie as tie

@@ -1,5 +1,5 @@
 -- `compare_fields::set_number` sets one of the core's own numbers.
-use Rattle.compare.proofs.Words.{past, at-least}
+use Rattle.common.proofs.Matches.{past, at-least}
 use Rattle.compare_fields.specs.Fields.{firstNumber, lastNumber, setNumber}
 use Rattle.compare_fields.proofs.set_number.Statement.{statement}
 use Rattle.compare_fields.proofs.set_number.Tie as tie

@@ -1,6 +1,6 @@
 -- `compare_fields::set_on` sets something of the step on now.
 use borrow.Author.Needs.{needs}
-use Rattle.compare.proofs.Words.{past, at-least}
+use Rattle.common.proofs.Matches.{past, at-least}
 use Rattle.compare_fields.specs.Fields.{firstOn, lastOn, setOn}
 use Rattle.compare_fields.proofs.set_on.Statement.{statement}
 use Rattle.compare_fields.proofs.set_on.Tie as tie

@@ -1,6 +1,6 @@
 -- `compare_fields::set_readings` sets the last cadence or the average's place.
 use borrow.Author.Needs.{needs}
-use Rattle.compare.proofs.Words.{past, at-least}
+use Rattle.common.proofs.Matches.{past, at-least}
 use Rattle.compare_fields.specs.Fields.{firstReadings, lastReadings, setReadings}
 use Rattle.compare_fields.proofs.set_readings.Statement.{statement}
 use Rattle.compare_fields.proofs.set_readings.Tie as tie

@@ -1,6 +1,6 @@
 -- `compare_fields::set_summary` sets one of the summary's numbers.
 use borrow.Author.Needs.{needs}
-use Rattle.compare.proofs.Words.{past, at-least}
+use Rattle.common.proofs.Matches.{past, at-least}
 use Rattle.compare_fields.specs.Fields.{firstSummary, lastSummary, setSummary}
 use Rattle.compare_fields.proofs.set_summary.Statement.{statement}
 use Rattle.compare_fields.proofs.set_summary.Tie as tie

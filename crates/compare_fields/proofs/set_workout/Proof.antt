@@ -1,6 +1,6 @@
 -- `compare_fields::set_workout` sets one of the workout's counts.
 use borrow.Author.Needs.{needs}
-use Rattle.compare.proofs.Words.{past, at-least}
+use Rattle.common.proofs.Matches.{past, at-least}
 use Rattle.compare_fields.specs.Fields.{firstWorkout, lastWorkout, setWorkout}
 use Rattle.compare_fields.proofs.set_workout.Statement.{statement}
 use Rattle.compare_fields.proofs.set_workout.Tie as tie

@@ -3,7 +3,7 @@ use mathlib.Core.Path.{_∙_, ap}
 use Prim.Native.Nat.{_-_}
 use native.Mathlib.Omega.{arith}
 use borrow.Author.Needs.{needs}
-use Rattle.compare.proofs.Words.{past, at-least}
+use Rattle.common.proofs.Matches.{past, at-least}
 use Rattle.step_writer.specs.declared.Values.{Values}
 use Rattle.compare_files.specs.Files.{stepFacts, stepWord, textWord}
 use Rattle.compare_files.proofs.step_word.Statement.{statement}

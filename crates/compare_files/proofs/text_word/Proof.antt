@@ -3,7 +3,7 @@ use mathlib.Core.List.{[], _∷_}
 use mathlib.Core.Path.{_∙_}
 use Prim.Native.Nat.{_-_}
 use borrow.Author.Needs.{needs}
-use Rattle.compare.proofs.Words.{past, at-least}
+use Rattle.common.proofs.Matches.{past, at-least}
 use Rattle.compare.specs.Input.{wordAt}
 use Rattle.compare_files.specs.Files.{textWord}
 use Rattle.compare_files.proofs.text_word.Statement.{statement}

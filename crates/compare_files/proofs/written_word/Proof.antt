@@ -4,7 +4,7 @@ use mathlib.Core.Path.{_∙_, ap}
 use Prim.Native.Nat.{ℕ, _-_}
 use denote.Ref.{now}
 use borrow.Author.Needs.{needs}
-use Rattle.compare.proofs.Words.{past, at-least}
+use Rattle.common.proofs.Matches.{past, at-least}
 use Rattle.compare.specs.Input.{wordAt}
 use Rattle.decode.specs.Decode.{decodeOf}
 use Rattle.encode.specs.Encode.{encodedOf, outputOf}

@@ -3,7 +3,7 @@ use mathlib.Core.Path.{_∙_, sym, ap}
 use Prim.Native.Nat.{ℕ}
 use lib.ListN.{getD}
 use borrow.Author.Needs.{needs}
-use Rattle.compare.proofs.Words.{past, at-least}
+use Rattle.common.proofs.Matches.{past, at-least}
 use Rattle.compare_player.specs.Calls.{played, turns, setTurn}
 use Rattle.compare_player.proofs.play.Statement.{statement}
 use Rattle.compare_player.proofs.play.Tie as tie

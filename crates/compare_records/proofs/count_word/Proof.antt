@@ -1,7 +1,7 @@
 -- `compare_records::count_word` gives the counts of steps and whether it is finished, and past them the FTP.
 use mathlib.Core.Path.{_∙_}
 use Prim.Native.Nat.{_-_}
-use Rattle.compare.proofs.Words.{past, at-least}
+use Rattle.common.proofs.Matches.{past, at-least}
 use Rattle.compare_records.specs.Records.{ftpWord, countFacts, countWord}
 use borrow.Author.Needs.{needs}
 use Rattle.compare_records.proofs.count_word.Statement.{statement}

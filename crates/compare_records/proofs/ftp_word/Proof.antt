@@ -1,6 +1,6 @@
 -- `compare_records::ftp_word` gives 0, or 1 and the watts.
 use mathlib.Core.List.{[], _∷_}
-use Rattle.compare.proofs.Words.{past, at-least}
+use Rattle.common.proofs.Matches.{past, at-least}
 use Rattle.compare_records.specs.Records.{ftpWord}
 use borrow.Author.Needs.{needs}
 use Rattle.compare_records.proofs.ftp_word.Statement.{statement}

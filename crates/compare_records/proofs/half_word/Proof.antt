@@ -1,7 +1,7 @@
 -- `compare_records::half_word` gives the lower bits, then the upper ones.
 use mathlib.Core.List.{[], _∷_}
 use Prim.Native.Nat.{_/_, _%_}
-use Rattle.compare.proofs.Words.{past, at-least}
+use Rattle.common.proofs.Matches.{past, at-least}
 use Rattle.compare_records.specs.Records.{halfWord}
 use borrow.Author.Needs.{needs}
 use Rattle.compare_records.proofs.half_word.Statement.{statement}

@@ -1,7 +1,7 @@
 -- `compare_records::head_word` gives refusal, journal, ride id and test, and past them the start.
 use mathlib.Core.Path.{_∙_}
 use Prim.Native.Nat.{_-_}
-use Rattle.compare.proofs.Words.{past, at-least}
+use Rattle.common.proofs.Matches.{past, at-least}
 use Rattle.compare_records.specs.Records.{startWord, headFacts, headWord}
 use borrow.Author.Needs.{needs}
 use Rattle.compare_records.proofs.head_word.Statement.{statement}

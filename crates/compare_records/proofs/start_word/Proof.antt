@@ -2,7 +2,7 @@
 use mathlib.Core.List.{[], _∷_}
 use mathlib.Core.Path.{_∙_}
 use Prim.Native.Nat.{_-_}
-use Rattle.compare.proofs.Words.{past, at-least}
+use Rattle.common.proofs.Matches.{past, at-least}
 use Rattle.compare_records.specs.Records.{halfWord, startWord}
 use borrow.Author.Needs.{needs}
 use Rattle.compare_records.proofs.start_word.Statement.{statement}

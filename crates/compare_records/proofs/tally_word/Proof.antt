@@ -1,7 +1,7 @@
 -- `compare_records::tally_word` gives the half of a tally.
 use mathlib.Core.Path.{ap, _∙_}
 use Prim.Native.Nat.{ℕ, _/_, _%_}
-use Rattle.compare.proofs.Words.{past, at-least}
+use Rattle.common.proofs.Matches.{past, at-least}
 use Rattle.compare_records.specs.Records.{halfWord, tallies, tallyWord}
 use borrow.Author.Needs.{needs}
 use Rattle.compare_records.proofs.tally_word.Statement.{statement}

@@ -3,7 +3,7 @@ use mathlib.Core.Path.{_∙_}
 use Prim.Native.Nat.{_-_}
 use native.Mathlib.Omega.{arith}
 use borrow.Author.Needs.{needs}
-use Rattle.compare.proofs.Words.{past, at-least}
+use Rattle.common.proofs.Matches.{past, at-least}
 use Rattle.compare.specs.Answers.{bandWord}
 use Rattle.compare_reports.specs.Words.{amountWord, amountFacts}
 use Rattle.compare_reports.proofs.amount_word.Statement.{statement}

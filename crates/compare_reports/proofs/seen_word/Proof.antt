@@ -2,7 +2,7 @@
 use mathlib.Core.Path.{_∙_}
 use Prim.Native.Nat.{_/_, _%_}
 use borrow.Author.Needs.{needs}
-use Rattle.compare.proofs.Words.{past, at-least}
+use Rattle.common.proofs.Matches.{past, at-least}
 use Rattle.compare_files.specs.Files.{stepWord}
 use Rattle.compare_reports.specs.Words.{seenWord, seenWords}
 use Rattle.compare_reports.proofs.seen_word.Statement.{statement}

@@ -1,6 +1,6 @@
 -- `compare_reports::shown_word` gives what is left, the test's number and the steps' places, and past them 0.
 use borrow.Author.Needs.{needs}
-use Rattle.compare.proofs.Words.{past, at-least}
+use Rattle.common.proofs.Matches.{past, at-least}
 use Rattle.compare_reports.specs.Words.{shownWord, shownFacts}
 use Rattle.compare_reports.proofs.shown_word.Statement.{statement}
 use Rattle.compare_reports.proofs.shown_word.Tie as tie

@@ -1,7 +1,7 @@
 -- `compare_reports::summary_word` gives the summary's numbers, and past them the percentage.
 use mathlib.Core.Path.{_∙_, ap}
 use borrow.Author.Needs.{needs}
-use Rattle.compare.proofs.Words.{past, at-least}
+use Rattle.common.proofs.Matches.{past, at-least}
 use Rattle.state.specs.State.{inTargetPct}
 use Rattle.compare_reports.specs.Words.{summaryWord, summaryFacts, pctWord}
 use Rattle.compare_reports.proofs.summary_word.Statement.{statement}

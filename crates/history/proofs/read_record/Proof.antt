@@ -10,8 +10,11 @@ shared-slice-read-t4 c = search needs
 get-u32-requires : tie.Need-get-u32-requires
 get-u32-requires c κs = search needs
 
-shared-slice-read-is-set : tie.Need-shared-slice-read-is-set
-shared-slice-read-is-set c = search needs
+shared-slice-read-flags-of : tie.Need-shared-slice-read-flags-of
+shared-slice-read-flags-of c = search needs
+
+flags-of-requires : tie.Need-flags-of-requires
+flags-of-requires c κs = search needs
 
 is-set-requires : tie.Need-is-set-requires
 is-set-requires c κs = search needs
@@ -30,7 +33,7 @@ read-summary-requires c κs = search needs
 
 returns : tie.Need-returns
 unfolding recordIn
-returns c = simp (c .read-summary .ensures, c .before .read-name .ensures, c .before .before .start-of .ensures, c .before .before .before .get-u64 .ensures, c .before .before .before .before .is-set .ensures, c .before .before .before .before .before .before .get-u32 .ensures)
+returns c = simp (c .read-summary .ensures, c .before .read-name .ensures, c .before .before .start-of .ensures, c .before .before .before .get-u64 .ensures, c .before .before .before .before .is-set .ensures, c .before .before .before .before .before .flags-of .ensures, c .before .before .before .before .before .before .before .get-u32 .ensures)
 
 pub read-record-spec : {M : Type 1} → statement M
 read-record-spec =
@@ -38,7 +41,8 @@ read-record-spec =
     (tie.spec
     shared-slice-read-t4
     get-u32-requires
-    shared-slice-read-is-set
+    shared-slice-read-flags-of
+    flags-of-requires
     is-set-requires
     get-u64-requires
     start-of-requires

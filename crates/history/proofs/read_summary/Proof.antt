@@ -4,8 +4,11 @@ use borrow.Author.Needs.{needs}
 use Rattle.history.proofs.read_summary.Statement.{statement}
 use Rattle.history.proofs.read_summary.Tie as tie
 
-shared-slice-read-flags : tie.Need-shared-slice-read-flags
-shared-slice-read-flags c = search needs
+shared-slice-read-flags-of : tie.Need-shared-slice-read-flags-of
+shared-slice-read-flags-of c = search needs
+
+flags-of-requires : tie.Need-flags-of-requires
+flags-of-requires c κs = search needs
 
 get-u32-requires : tie.Need-get-u32-requires
 get-u32-requires c κs = search needs
@@ -37,8 +40,8 @@ is-set-requires c κs = search needs
 get-u16-requires : tie.Need-get-u16-requires
 get-u16-requires c κs = search needs
 
-ftp-of-requires : tie.Need-ftp-of-requires
-ftp-of-requires c κs = search needs
+reading-at-requires : tie.Need-reading-at-requires
+reading-at-requires c κs = search needs
 
 get-u16-requires-2 : tie.Need-get-u16-requires-2
 get-u16-requires-2 c κs = search needs
@@ -54,13 +57,14 @@ is-set-requires-2 c κs = search needs
 
 returns : tie.Need-returns
 unfolding summaryIn
-returns c = simp (c .is-set2 .ensures, c .before .get-u164 .ensures, c .before .before .get-u163 .ensures, c .before .before .before .get-u162 .ensures, c .before .before .before .before .ftp-of .ensures, c .before .before .before .before .before .get-u16 .ensures, c .before .before .before .before .before .before .is-set .ensures, c .before .before .before .before .before .before .before .get-u324 .ensures, c .before .before .before .before .before .before .before .before .get-u323 .ensures, c .before .before .before .before .before .before .before .before .before .get-u322 .ensures, c .before .before .before .before .before .before .before .before .before .before .get-u32 .ensures)
+returns c = simp (c .is-set2 .ensures, c .before .get-u164 .ensures, c .before .before .get-u163 .ensures, c .before .before .before .get-u162 .ensures, c .before .before .before .before .reading-at .ensures, c .before .before .before .before .before .get-u16 .ensures, c .before .before .before .before .before .before .is-set .ensures, c .before .before .before .before .before .before .before .get-u324 .ensures, c .before .before .before .before .before .before .before .before .get-u323 .ensures, c .before .before .before .before .before .before .before .before .before .get-u322 .ensures, c .before .before .before .before .before .before .before .before .before .before .get-u32 .ensures, c .before .before .before .before .before .before .before .before .before .before .before .flags-of .ensures)
 
 pub read-summary-spec : {M : Type 1} → statement M
 read-summary-spec =
     tie.close
     (tie.spec
-    shared-slice-read-flags
+    shared-slice-read-flags-of
+    flags-of-requires
     get-u32-requires
     cast-t6
     get-u32-requires-2
@@ -71,7 +75,7 @@ read-summary-spec =
     cast-t12
     is-set-requires
     get-u16-requires
-    ftp-of-requires
+    reading-at-requires
     get-u16-requires-2
     get-u16-requires-3
     get-u16-requires-4

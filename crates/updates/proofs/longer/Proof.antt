@@ -6,11 +6,8 @@ use Rattle.updates.proofs.longer.Tie as tie
 extended-requires : tie.Need-extended-requires
 extended-requires c κs = search needs
 
-with-core-requires : tie.Need-with-core-requires
-with-core-requires c κs = search needs
-
 returns : tie.Need-returns
-returns c = simp (c .with-core .ensures, c .before .extended .ensures)
+returns c = simp (c .extended .ensures)
 
 pub longer-spec : {M : Type 1} → statement M
-longer-spec = tie.close (tie.spec extended-requires with-core-requires returns)
+longer-spec = tie.close (tie.spec extended-requires returns)

@@ -1,0 +1,110 @@
+-- What an act of a ride sheet makes of the player, and the acts one after the other. (An act is document 01's word for an entry of a
+-- ride sheet.)
+use mathlib.Core.Path.{_≡_}
+use mathlib.Core.Bool.{true, cond}
+use mathlib.Core.List.{List, [], _∷_}
+use Prim.Native.Nat.{ℕ, _+_}
+use lib.ListN.{length}
+use Rattle.refusal.specs.declared.Answer.{Answer}
+use Rattle.refusal.specs.declared.Answer.the-variants.{Accepted, Refused}
+use Rattle.refusal.specs.declared.Refusal.the-variants as refusals
+use Rattle.names.specs.Names.{emptyName}
+use Rattle.zones.specs.declared.TrainingProfile.{TrainingProfile}
+use Rattle.model.specs.declared.Test.the-variants as tests
+use Rattle.model.specs.declared.Workout.{Workout}
+use Rattle.readings.specs.declared.Sample.{Sample}
+use Rattle.events.specs.Events.{Wrote}
+use Rattle.state.specs.declared.Core.{Core}
+use Rattle.state.specs.declared.Player.{Player}
+use Rattle.state.specs.State.{readCore}
+use Rattle.step_end.specs.StepEnd.{Outcome, nextOf}
+use Rattle.rounds.specs.Rounds.{riding}
+use Rattle.standing.specs.Standing.{standingOf, cadenceIn}
+use Rattle.start.specs.Start.{noSummary}
+use Rattle.updates.specs.declared.ExtendedCore.{ExtendedCore}
+use Rattle.updates.specs.Updates.{Called, eventless, playerOf, extendCore}
+use Rattle.machine.specs.Cutting.{read, ride, skip, extend}
+use Rattle.machine.specs.Runs.{called}
+use Rattle.sheet.specs.declared.Act.{Act}
+use Rattle.sheet.specs.declared.Act.the-variants.{Profile, Read, Ride, Skip, Extend}
+use Rattle.sheet.specs.declared.ActAnswer.{ActAnswer}
+use Rattle.sheet.specs.declared.ActOption.the-variants.{None, Some}
+use Rattle.sheet.specs.Sheet.{acceptedAll}
+use Rattle.replay.specs.declared.Acted.{Acted}
+use Rattle.replay.specs.declared.Ridden.{Ridden}
+
+-- The places of the replay's own event arrays: "both arrays of 193 places or more".
+abbrev pub places : ℕ
+places = 193
+
+-- The call that an act stands for. Question 17 lets a profile through as the first act alone, and that one is no call.
+unfoldable pub actCalled : TrainingProfile → Act → Player → Called
+actCalled p (Profile f) player = eventless Accepted player
+actCalled p (Read sample) player = called p (read sample) player
+actCalled p (Ride ms mm) player = called p (ride (ms .0) (mm .0) places places) player
+actCalled p Skip player = called p (skip places places) player
+actCalled p Extend player = called p extend player
+
+-- Acts in a row.
+
+-- Refused, nothing is ridden.
+abbrev pub nothingRidden : ActAnswer → Ridden
+nothingRidden told = record { told = told; name = emptyName; test = tests.None; summary = noSummary 0 }
+
+-- "Its record is .. of .. the workout's name, test" and how it went.
+abbrev pub riddenTo : Workout → Player → Ridden
+riddenTo w player = record { told = acceptedAll; name = w .name; test = w .test; summary = player .core .summary }
+
+abbrev pub goOn : Answer → ActAnswer → Ridden → Ridden
+goOn Accepted told rest = rest
+goOn (Refused refusal) told rest = nothingRidden told
+
+-- One question or act after the other: the first that is refused ends all.
+abbrev pub unlessRefused : ActAnswer → Ridden → Ridden
+unlessRefused told rest = goOn (told .answer) told rest
+
+abbrev pub atNoAct : Answer → ActAnswer
+atNoAct answer = record { answer = answer; act = None }
+
+abbrev pub atAct : ℕ → Answer → ActAnswer
+atAct i answer = record { answer = answer; act = Some i }
+
+-- "then each act; .. all refusals of acts name the first act at fault", i being the first one's number
+unfoldable pub playActs : Workout → TrainingProfile → List Act → ℕ → Player → Ridden
+playActs w p [] i player = riddenTo w player
+playActs w p (act ∷ acts) i player =
+    unlessRefused (atAct i (actCalled p act player .answer)) (playActs w p acts (i + 1) (actCalled p act player .player))
+
+-- What the functions that play an act suppose and give. The player is that of its core and minute.
+
+pub record Ready (w : Workout) (c : Core) (minute : List ℕ) : Type 0 where
+  pub stands : standingOf (playerOf w (riding c minute)) ≡ true
+  pub twelve : length (w .steps) ≡ 12
+  pub sixty : length minute ≡ 60
+
+pub record Acts (w : Workout) (minute' ks vs ks' vs' : List ℕ) (r : Acted) (o : Called) : Type 0 where
+  pub answer : r .answer ≡ o .answer
+  pub player : playerOf w (riding (r .core) minute') ≡ o .player
+  pub wrote : Wrote ks vs 0 ks' vs' (r .events) (o .events)
+
+abbrev pub eventlessAct : Answer → Core → Acted
+eventlessAct answer c = record { answer = answer; core = c; events = 0 }
+
+abbrev pub readAct : Sample → Core → Acted
+readAct sample c =
+    cond (cadenceIn (sample .«cadence_tenths»)) (eventlessAct Accepted (readCore sample c)) (eventlessAct (Refused refusals.Cadence) c)
+
+-- Once nothing is left to be asked, a skip does nothing when finished, and else ends the step.
+abbrev pub skipOutcome : Workout → Core → Outcome
+skipOutcome w c = cond (c .done) (record { core = c; events = [] }) (nextOf w true c)
+
+pub record Skips (ks vs ks' vs' : List ℕ) (r : Acted) (o : Outcome) : Type 0 where
+  pub answer : r .answer ≡ Accepted
+  pub core : r .core ≡ o .core
+  pub wrote : Wrote ks vs 0 ks' vs' (r .events) (o .events)
+
+abbrev pub ofExtended : ExtendedCore → Acted
+ofExtended r = eventlessAct (r .answer) (r .core)
+
+abbrev pub extendAct : Core → Acted
+extendAct c = cond (c .done) (eventlessAct Accepted c) (ofExtended (extendCore 60 500 (c .on .length) c))

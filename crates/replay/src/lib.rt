@@ -1,0 +1,285 @@
+// Document 01: the replay of a ride sheet, with event arrays of its own. It asks the workout file, the sheet and the room for the
+// record, then plays act by act (document 01's word for an entry of a sheet) from a fresh player, and writes the record.
+ghost use mathlib.Core.Path.{_≡_};
+ghost use mathlib.Core.Bool.{true, false};
+ghost use Prim.Native.Nat.{_+_, _*_, _-_, _≤_, _<_};
+ghost use lib.ListN.{length};
+ghost use Rattle.zones.specs.Zones.{profileOk};
+ghost use Rattle.rounds.specs.Rounds.{riding};
+ghost use Rattle.step_end.specs.StepEnd.{NextFits};
+ghost use Rattle.updates.specs.Updates.{ExtraFits, playerOf};
+ghost use Rattle.machine.specs.Cutting.{ride};
+ghost use Rattle.machine.specs.Runs.{called};
+ghost use Rattle.sheet.specs.Sheet.{sizeOk, actsFrom};
+ghost use Rattle.replay.specs.Acts.{actCalled, nothingRidden, playActs, Ready, Acts, eventlessAct, readAct, skipOutcome, Skips, extendAct};
+ghost use Rattle.replay.specs.Replay.{Fresh, playSheet, riddenOf, replayAnswer, replayOutput};
+use history::Record;
+use history::start_of;
+use machine::reading_fits;
+use model::Test;
+use model::Workout;
+use names::Name;
+use player::EXTEND_M;
+use player::EXTEND_S;
+use player::update_answer;
+use readings::Sample;
+use record_writer::RECORD_BYTES;
+use record_writer::encode;
+use refusal::Answer;
+use refusal::Refusal;
+use sheet::Act;
+use sheet::ActAnswer;
+use sheet::ActOption;
+use sheet::accepted_all;
+use sheet::act_at;
+use sheet::count_of;
+use sheet::profile_at;
+use sheet::refused_at;
+use standing::cadence_in;
+use start::no_summary;
+use state::Core;
+use state::Mm;
+use state::Ms;
+use state::Player;
+use state::Summary;
+use step_end::next;
+use updates::extend_core;
+use updates::ride_core;
+use zones::TrainingProfile;
+
+// What a sheet came to: the answer, and what the record takes from workout and player; refused, nothing.
+pub struct Ridden {
+    pub told: ActAnswer,
+    pub name: Name,
+    pub test: Test,
+    pub summary: Summary,
+}
+
+// What an act gives: its answer, the core after it, and the number of its events.
+struct Acted {
+    answer: Answer,
+    core: Core,
+    events: usize,
+}
+
+fn eventless(core: Core, answer: Answer) -> Acted
+    ensures { λ r. ⌜ r ≡ eventlessAct answer core ⌝ }
+{
+    Acted {
+        answer,
+        core,
+        events: 0,
+    }
+}
+
+fn read_act(core: Core, sample: Sample) -> Acted
+    ensures { λ r. ⌜ r ≡ readAct sample core ⌝ }
+{
+    let cadence = sample.cadence_tenths;
+    if cadence_in(cadence) {
+        return eventless(core.read(sample), Answer::Accepted);
+    }
+    eventless(core, Answer::Refused(Refusal::Cadence))
+}
+
+fn ride_act(
+    workout: Workout,
+    profile: TrainingProfile,
+    core: Core,
+    ms: Ms,
+    mm: Mm,
+    minute: &mut [u16; 60],
+    kinds: &mut [u8],
+    values: &mut [u16],
+) -> Acted
+    requires { ⌜ Ready workout core (now minute) × (profileOk profile ≡ true) × (length (now kinds) ≡ 193) × (length (now values) ≡ 193) ⌝ }
+    ensures { λ r. ⌜ Acts workout (now (minute .exit)) (now (kinds .entry)) (now (values .entry)) (now (kinds .exit)) (now (values .exit)) r (called profile (ride (ms .0) (mm .0) 193 193) (playerOf workout (riding core (now (minute .entry))))) × (length (now (minute .exit)) ≡ 60) ⌝ }
+{
+    match update_answer(core, ms, mm, 193, 193) {
+        Answer::Accepted => {
+            if ms.0 == 0 {
+                return eventless(core, Answer::Accepted);
+            }
+            let ridden = ride_core(workout, core, ms, mm, profile, minute, kinds, values);
+            let after = ridden.core;
+            Acted {
+                answer: Answer::Accepted,
+                core: after,
+                events: ridden.count,
+            }
+        }
+        Answer::Refused(refusal) => eventless(core, Answer::Refused(refusal)),
+    }
+}
+
+fn skip_act(workout: Workout, core: Core, kinds: &mut [u8], values: &mut [u16]) -> Acted
+    requires { ⌜ NextFits core × (length (now kinds) ≡ 193) × (length (now values) ≡ 193) ⌝ }
+    ensures { λ r. ⌜ Skips (now (kinds .entry)) (now (values .entry)) (now (kinds .exit)) (now (values .exit)) r (skipOutcome workout core) ⌝ }
+{
+    if core.done {
+        return eventless(core, Answer::Accepted);
+    }
+    let moved = next(workout, core, true, kinds, values, 0);
+    let after = moved.core;
+    Acted {
+        answer: Answer::Accepted,
+        core: after,
+        events: moved.count,
+    }
+}
+
+fn extend_act(core: Core) -> Acted
+    requires { ⌜ (core .done ≡ false → ExtraFits core 60 500) ⌝ }
+    ensures { λ r. ⌜ r ≡ extendAct core ⌝ }
+{
+    if core.done {
+        return eventless(core, Answer::Accepted);
+    }
+    let touched = extend_core(core, EXTEND_S, EXTEND_M);
+    let answer = touched.answer;
+    let after = touched.core;
+    eventless(after, answer)
+}
+
+// One act, as the call that it stands for.
+fn play_act(
+    workout: Workout,
+    profile: TrainingProfile,
+    core: Core,
+    act: Act,
+    minute: &mut [u16; 60],
+    kinds: &mut [u8],
+    values: &mut [u16],
+) -> Acted
+    requires { ⌜ Ready workout core (now minute) × (profileOk profile ≡ true) × (length (now kinds) ≡ 193) × (length (now values) ≡ 193) ⌝ }
+    ensures { λ r. ⌜ Acts workout (now (minute .exit)) (now (kinds .entry)) (now (values .entry)) (now (kinds .exit)) (now (values .exit)) r (actCalled profile act (playerOf workout (riding core (now (minute .entry))))) × Ready workout (r .core) (now (minute .exit)) ⌝ }
+{
+    // That the last reading has 16 bits is part of what the player after the act stands on.
+    let readings = core.readings;
+    let sample = readings.last_sample;
+    let power = sample.power_watts;
+    reading_fits(power);
+    match act {
+        Act::Profile(_) => eventless(core, Answer::Accepted),
+        Act::Read(taken) => read_act(core, taken),
+        Act::Ride(ms, mm) => ride_act(workout, profile, core, ms, mm, minute, kinds, values),
+        Act::Skip => skip_act(workout, core, kinds, values),
+        Act::Extend => extend_act(core),
+    }
+}
+
+fn nothing_ridden(told: ActAnswer) -> Ridden
+    ensures { λ r. ⌜ r ≡ nothingRidden told ⌝ }
+{
+    Ridden {
+        told,
+        name: Name::empty(),
+        test: Test::None,
+        summary: no_summary(0),
+    }
+}
+
+// The acts from act 1 on.
+fn play(fresh: Player, profile: TrainingProfile, sheet: &[u8], n: usize) -> Ridden
+    requires { ⌜ Ready (fresh .workout) (fresh .core) (fresh .minute) × (profileOk profile ≡ true) × (1 ≤ n) × (n ≤ 4096) × (length (now sheet) ≡ 2 + 9 * n) ⌝ }
+    ensures { λ r. ⌜ r ≡ playActs (fresh .workout) profile (actsFrom (now (sheet .entry)) n 1 (n - 1)) 1 (playerOf (fresh .workout) (riding (fresh .core) (fresh .minute))) ⌝ }
+{
+    let mut kinds: [u8; 193] = [0; 193];
+    let mut values: [u16; 193] = [0; 193];
+    let workout = fresh.workout;
+    let mut minute = fresh.minute;
+    let mut core = fresh.core;
+    let mut i: usize = 1;
+    while i < n {
+        let act = act_at(sheet, n, i);
+        let acted = play_act(workout, profile, core, act, &mut minute, &mut kinds, &mut values);
+        let answer = acted.answer;
+        if let Answer::Refused(refusal) = answer {
+            return nothing_ridden(refused_at(refusal, ActOption::Some(i as u16)));
+        }
+        core = acted.core;
+        i += 1;
+    }
+    let name = workout.name;
+    let test = workout.test;
+    let summary = core.summary;
+    Ridden {
+        told: accepted_all(),
+        name,
+        test,
+        summary,
+    }
+}
+
+// The profile, then the other acts from a fresh player.
+fn play_sheet(fresh: Player, sheet: &[u8]) -> Ridden
+    requires { ⌜ Fresh fresh × (sizeOk (now sheet) ≡ true) ⌝ }
+    ensures { λ r. ⌜ r ≡ playSheet fresh (now (sheet .entry)) ⌝ }
+{
+    let n = count_of(sheet);
+    let profile = profile_at(sheet, 2 + n);
+    match profile.check() {
+        Answer::Accepted => play(fresh, profile, sheet, n),
+        Answer::Refused(refusal) => nothing_ridden(refused_at(refusal, ActOption::Some(0))),
+    }
+}
+
+// What a workout file and a ride sheet come to, with so much room for the record.
+pub fn ride_sheet(file: &[u8], sheet: &[u8], room: usize) -> Ridden
+    ensures { λ r. ⌜ r ≡ riddenOf (now (file .entry)) (now (sheet .entry)) room ⌝ }
+{
+    let decoded = decode::decode(file);
+    let read = decoded.answer;
+    if let Answer::Refused(refusal) = read {
+        return nothing_ridden(refused_at(refusal, ActOption::None));
+    }
+    let workout = decoded.workout;
+    let made = start::new(workout);
+    let begun = made.answer;
+    if let Answer::Refused(refusal) = begun {
+        return nothing_ridden(refused_at(refusal, ActOption::None));
+    }
+    let checked = sheet::check(sheet);
+    let acts = checked.answer;
+    if let Answer::Refused(_) = acts {
+        return nothing_ridden(checked);
+    }
+    if room < RECORD_BYTES {
+        return nothing_ridden(refused_at(Refusal::Output, ActOption::None));
+    }
+    play_sheet(made.player, sheet)
+}
+
+// The record of a replay into lent bytes; refused, all bytes stay.
+pub fn replay(
+    file: &[u8],
+    sheet: &[u8],
+    journal: u8,
+    id: u32,
+    start: u64,
+    dated: bool,
+    out: &mut [u8],
+) -> ActAnswer
+    ensures { λ r. ⌜ r ≡ replayAnswer (now (file .entry)) (now (sheet .entry)) (length (now (out .entry))) ⌝ }
+    ensures { λ _. ⌜ now (out .exit) ≡ replayOutput (now (file .entry)) (now (sheet .entry)) journal id start dated (now (out .entry)) ⌝ }
+{
+    let ride = ride_sheet(file, sheet, out.len());
+    let told = ride.told;
+    let answer = told.answer;
+    if let Answer::Refused(_) = answer {
+        return told;
+    }
+    let name = ride.name;
+    let test = ride.test;
+    let summary = ride.summary;
+    let stored = Record {
+        journal,
+        ride_id: id,
+        started_utc_ms: start_of(dated, start),
+        name,
+        test,
+        summary,
+    };
+    encode(stored, out);
+    told
+}
