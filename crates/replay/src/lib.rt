@@ -192,7 +192,15 @@ fn play(fresh: Player, profile: TrainingProfile, sheet: &[u8], n: usize) -> Ridd
     let mut i: usize = 1;
     while i < n {
         let act = act_at(sheet, n, i);
-        let acted = play_act(workout, profile, core, act, &mut minute, &mut kinds, &mut values);
+        let acted = play_act(
+            workout,
+            profile,
+            core,
+            act,
+            &mut minute,
+            &mut kinds,
+            &mut values,
+        );
         let answer = acted.answer;
         if let Answer::Refused(refusal) = answer {
             return nothing_ridden(refused_at(refusal, ActOption::Some(i as u16)));

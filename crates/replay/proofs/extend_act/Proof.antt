@@ -1,3 +1,4 @@
+-- `extend_act`: done does nothing; else question 15.
 use Rattle.replay.specs.Acts.{eventlessAct, ofExtended}
 use Rattle.replay.specs.declared.Acted.{Acted}
 use Rattle.updates.specs.Updates.{extendCore}

@@ -1,3 +1,4 @@
+-- `play_act`: kind by kind.
 use mathlib.Core.List.{[]}
 use denote.Ref.{now}
 use Rattle.replay.proofs.Laws.{profile-acts, read-acts, skip-acts, extend-acts, ready-next, ready-extra, played}

@@ -1,3 +1,4 @@
+-- `read_act`: question 11, then the reading.
 use Rattle.replay.specs.Acts.{eventlessAct}
 use Rattle.replay.specs.declared.Acted.{Acted}
 use Rattle.state.specs.State.{readCore}

@@ -1,3 +1,4 @@
+-- `ride_act`: questions 12 to 14; 0 ms does nothing; else the loop on the core and its minute.
 use denote.Ref.{now}
 use Rattle.replay.proofs.Laws.{refused-acts, idle-acts, ride-acts}
 use Rattle.player.proofs.Laws.{update-passed}

@@ -1,47 +1,31 @@
+-- `ride_sheet`: question after question.
 use Rattle.replay.proofs.Sheets.{file-refused, new-refused, sheet-refused, no-room, acts-played, new-fresh}
 use Rattle.sheet.proofs.Laws.{accepted-sized}
 use Rattle.replay.specs.Replay.{Fresh, playSheet}
 use Rattle.replay.specs.Acts.{nothingRidden}
 use Rattle.decode.specs.declared.Decoded.{Decoded}
 use Rattle.start.specs.Start.{newOf}
-use Rattle.model.specs.declared.Workout.{Workout}
-use Rattle.state.specs.declared.Player.{Player}
 use Rattle.start.specs.declared.NewPlayer.{NewPlayer}
 use Rattle.sheet.specs.declared.ActAnswer.{ActAnswer}
-use Rattle.refusal.specs.declared.Answer.{Answer}
 use denote.Ref.{now}
-use native.Mathlib.Omega.{arith}
-use mathlib.Core.Path.{_≡_, sym, ap, subst, _∙_}
+use mathlib.Core.Path.{sym, ap, subst, _∙_}
 use Rattle.decode.specs.Decode.{decodeOf}
 use borrow.Author.Needs.{needs}
 use Rattle.replay.proofs.ride_sheet.Statement.{statement}
 use Rattle.replay.proofs.ride_sheet.Tie as tie
-use Rattle.replay.proofs.ride_sheet.Reads as reads
-use Rattle.replay.proofs.ride_sheet.Lts as lts
-use Rattle.decode.proofs.decode.Reads as decode-reads
-use Rattle.replay.proofs.nothing_ridden.Reads as nothing-ridden-reads
-use Rattle.replay.proofs.play_sheet.Reads as play-sheet-reads
-use Rattle.sheet.proofs.check.Reads as check-reads
-use Rattle.sheet.proofs.refused_at.Reads as refused-at-reads
-use Rattle.start.proofs.new.Reads as new-reads
 
--- src/lib.rt:231:9
 decode-requires : tie.Need-decode-requires
 decode-requires c κs = search needs
 
--- src/lib.rt:233:28
 enum-known-read : tie.Need-enum-known-read
 enum-known-read c = search needs
 
--- src/lib.rt:234:31
 refused-at-requires : tie.Need-refused-at-requires
 refused-at-requires c κs = search needs
 
--- src/lib.rt:234:9
 nothing-ridden-requires : tie.Need-nothing-ridden-requires
 nothing-ridden-requires c κs = search needs
 
--- src/lib.rt:234:9
 returns : tie.Need-returns
 returns c = let a = c .before .before .before .before .before .before .before .before .args in
     c .nothing-ridden .ensures ∙ ap nothingRidden (c .before .refused-at .ensures)
@@ -50,23 +34,18 @@ returns c = let a = c .before .before .before .before .before .before .before .b
 enum-told : tie.Need-enum-told
 enum-told c = search needs
 
--- src/lib.rt:237:9
 new-requires : tie.Need-new-requires
 new-requires c κs = search needs
 
--- src/lib.rt:239:28
 enum-known-begun : tie.Need-enum-known-begun
 enum-known-begun c = search needs
 
--- src/lib.rt:240:31
 refused-at-requires-2 : tie.Need-refused-at-requires-2
 refused-at-requires-2 c κs = search needs
 
--- src/lib.rt:240:9
 nothing-ridden-requires-2 : tie.Need-nothing-ridden-requires-2
 nothing-ridden-requires-2 c κs = search needs
 
--- src/lib.rt:240:9
 returns-2 : tie.Need-returns-2
 returns-2 c = let a = c .before .before .before .before .before .before .before .before .before .before .before .before .args in
     let f = now (a .file) in
@@ -79,19 +58,15 @@ returns-2 c = let a = c .before .before .before .before .before .before .before 
 enum-told-2 : tie.Need-enum-told-2
 enum-told-2 c = search needs
 
--- src/lib.rt:242:9
 check-requires : tie.Need-check-requires
 check-requires c κs = search needs
 
--- src/lib.rt:245:9
 enum-told-3 : tie.Need-enum-told-3
 enum-told-3 c = search needs
 
--- src/lib.rt:245:9
 nothing-ridden-requires-3 : tie.Need-nothing-ridden-requires-3
 nothing-ridden-requires-3 c κs = search needs
 
--- src/lib.rt:245:9
 returns-3 : tie.Need-returns-3
 returns-3 c = let a = c .before .before .before .before .before .before .before .before .before .before .before .before .before .args in
     let f = now (a .file) in
@@ -105,15 +80,12 @@ returns-3 c = let a = c .before .before .before .before .before .before .before 
 enum-told-4 : tie.Need-enum-told-4
 enum-told-4 c = search needs
 
--- src/lib.rt:248:31
 refused-at-requires-3 : tie.Need-refused-at-requires-3
 refused-at-requires-3 c κs = search needs
 
--- src/lib.rt:248:9
 nothing-ridden-requires-4 : tie.Need-nothing-ridden-requires-4
 nothing-ridden-requires-4 c κs = search needs
 
--- src/lib.rt:248:9
 returns-4 : tie.Need-returns-4
 returns-4 c = let a = c .before .before .before .before .before .before .before .before .before .before .before .before .before .before .before .args in
     let f = now (a .file) in
@@ -124,7 +96,6 @@ returns-4 c = let a = c .before .before .before .before .before .before .before 
     let k = sym (ap (λ (x : ActAnswer). x .answer) (c .before .before .before .before .before .check .ensures)) ∙ c .before .before .before .enum-told4 .given .1 in
     c .nothing-ridden4 .ensures ∙ ap nothingRidden (c .before .refused-at3 .ensures) ∙ no-room f s (a .room) e g k (c .before .before .if1 .taken)
 
--- src/lib.rt:250:5
 play-sheet-requires : tie.Need-play-sheet-requires
 play-sheet-requires c κs = let a = c .before .before .before .before .before .before .before .before .before .before .before .before .before .args in
     let f = now (a .file) in
@@ -135,7 +106,6 @@ play-sheet-requires c κs = let a = c .before .before .before .before .before .b
     let k = sym (ap (λ (x : ActAnswer). x .answer) (c .before .before .before .check .ensures)) ∙ c .before .enum-told4 .given .1 in
     (subst (λ (m : NewPlayer). Fresh (m .player)) (sym m) (new-fresh (decodeOf f .workout) g), accepted-sized s k)
 
--- src/lib.rt:228:1
 returns-5 : tie.Need-returns-5
 returns-5 c = let a = c .before .before .before .before .before .before .before .before .before .before .before .before .before .before .args in
     let f = now (a .file) in

@@ -1,3 +1,4 @@
+-- `skip_act`: done does nothing; else the step ends.
 use Rattle.replay.proofs.Laws.{skip-none, skip-moved}
 use borrow.Author.Needs.{needs}
 use Rattle.replay.proofs.skip_act.Statement.{statement}

@@ -1,3 +1,4 @@
+-- `check`: question 16, then 17.
 use denote.Ref.{now}
 use borrow.Author.Tests.{not-true, not-false}
 use native.Mathlib.Omega.{arith}

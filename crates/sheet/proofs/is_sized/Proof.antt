@@ -1,3 +1,4 @@
+-- `is_sized`: a sheet without a whole count has another length.
 use denote.Ref.{now}
 use lib.ListN.{length}
 use lib.Dec.{leb, eqb}
