@@ -95,7 +95,7 @@ typedef struct {
  * - `out` overlaps neither `workout` nor `sheet`. These two may overlap each other.
  * - while the call runs no other thread writes to the three, or reads `out`. Calls with an `out` each may run at one time; nothing
  *   is kept between calls.
- * - there is stack for it: about N bytes of stack.
+ * - there is stack for it: about 10,000 bytes of stack.
  */
 replayed replay(const uint8_t *workout, size_t workout_len, const uint8_t *sheet, size_t sheet_len, uint8_t journal,
                 uint32_t id, uint64_t start, uint32_t dated, uint8_t *out, size_t out_len);

@@ -1,4 +1,4 @@
-//! Writes the fixed list that crate `vectors` replays to files `answers`, `players` and `replays` of the folder given: each limit
+//! Writes the fixed lists that crate `vectors` (`answers`, `players`) and tests/c/list.c (`replays`) play to the folder given: each limit
 //! of each question, then random inputs of a fixed seed, with the Rust's answers. An entry is the question, the number of the
 //! input's bytes, the input, the number of the answer's words, and the words; the numbers and the words are 4 bytes each,
 //! little-endian. The last question is on the player: its input is the number of a workout file's bytes, the file, and a list of

@@ -2,10 +2,9 @@
 use mathlib.Core.Path.{_≡_, refl, sym, ap, subst, _∙_}
 use mathlib.Core.Bool.{Bool, true, false, cond}
 use mathlib.Core.List.{List, []}
-use Prim.Native.Nat.{ℕ, _+_, _<_}
+use Prim.Native.Nat.{ℕ, _+_}
 use lib.Dec.{leb}
 use lib.ListN.{length}
-use native.Mathlib.Omega.{arith}
 use Rattle.refusal.specs.declared.Answer.{Answer}
 use Rattle.refusal.specs.declared.Answer.the-variants.{Accepted, Refused}
 use Rattle.refusal.specs.declared.Refusal.{Refusal}
@@ -22,7 +21,7 @@ use Rattle.state.specs.declared.Core.{Core}
 use Rattle.state.specs.declared.StepNow.{StepNow}
 use Rattle.state.specs.declared.Player.{Player}
 use Rattle.state.specs.State.{readCore}
-use Rattle.step_end.specs.StepEnd.{Outcome, NextFits, Moves, nextOf}
+use Rattle.step_end.specs.StepEnd.{NextFits, Moves, nextOf}
 use Rattle.step_end.specs.declared.Moved.{Moved}
 use Rattle.rounds.specs.declared.Ride.{Ride}
 use Rattle.rounds.specs.Rounds.{riding}
@@ -30,7 +29,7 @@ use Rattle.rounds.specs.Contracted.{Ridden}
 use Rattle.rounds.proofs.One.{next-fits}
 use Rattle.standing.specs.Standing.{standingOf, cadenceIn}
 use Rattle.standing.proofs.Known.{known}
-use Rattle.updates.specs.Updates.{Called, ExtraFits, eventless, playerOf, begun, rideNow, skipTo, skipNow, withCore, notExtended, longerCore, notLonger, extendCore, extendedBy, extendBy}
+use Rattle.updates.specs.Updates.{Called, ExtraFits, eventless, playerOf, begun, skipTo, skipNow, notExtended, longerCore, notLonger, extendCore, extendedBy, extendBy}
 use Rattle.updates.proofs.Laws.{ride-idle, ride-made}
 use Rattle.player.specs.Calls.{readBy, readAnswer, readOf, updateAnswer, extendNow, extendOf}
 use Rattle.player.proofs.Laws.{ride-refused, ride-taken, skip-taken, extra-fits}

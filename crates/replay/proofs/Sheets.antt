@@ -1,5 +1,5 @@
 -- Acts one after the other, and the questions before them.
-use mathlib.Core.Path.{_≡_, refl, sym, ap, subst, _∙_}
+use mathlib.Core.Path.{_≡_, refl, sym, ap, _∙_}
 use mathlib.Core.Bool.{Bool, true, _&&_}
 use mathlib.Core.List.{List, [], _∷_}
 use Prim.Native.Nat.{ℕ, suc, _+_, _-_, _≤_, _<_}
@@ -32,13 +32,16 @@ use Rattle.updates.specs.Updates.{Called, playerOf}
 use Rattle.keeps.proofs.Fresh.{fresh-made, keeps-standing}
 use Rattle.history.specs.Record.{recordSize}
 use Rattle.record_writer.specs.Write.{writeAnswer, outputBy, outputOf}
+use Rattle.machine.specs.Runs.{run}
 use Rattle.sheet.specs.declared.Act.{Act}
+use Rattle.sheet.specs.declared.Act.the-variants.{Profile, Read, Skip, Extend}
+use Rattle.sheet.specs.declared.Act.the-variants as variants
 use Rattle.sheet.specs.declared.ActAnswer.{ActAnswer}
 use Rattle.sheet.specs.declared.ActOption.the-variants.{None, Some}
 use Rattle.sheet.specs.Sheet.{countIn, placeOf, profileAt, actIn, actsFrom, refusedAt, checkOf}
 use Rattle.replay.specs.declared.Acted.{Acted}
 use Rattle.replay.specs.declared.Ridden.{Ridden}
-use Rattle.replay.specs.Acts.{actCalled, nothingRidden, riddenTo, goOn, unlessRefused, atNoAct, atAct, playActs, Ready, Acts}
+use Rattle.replay.specs.Acts.{actCalled, callsOf, nothingRidden, riddenTo, goOn, unlessRefused, atNoAct, atAct, playActs, Ready, Acts}
 use Rattle.replay.specs.Replay.{profileIn, playSheet, Fresh, riddenOf, replayRecord, replayOutput}
 
 pub not-refused : (told : ActAnswer) (rest : Ridden) → told .answer ≡ Accepted → unlessRefused told rest ≡ rest
@@ -134,22 +137,32 @@ new-fresh w = at (workoutAnswer w) refl
 
 -- What was not refused passed its question.
 
-passed : (told : ActAnswer) (rest : Ridden) → unlessRefused told rest .told .answer ≡ Accepted → (told .answer ≡ Accepted) × (unlessRefused told rest ≡ rest)
+pub passed : (told : ActAnswer) (rest : Ridden) → unlessRefused told rest .told .answer ≡ Accepted → (told .answer ≡ Accepted) × (unlessRefused told rest ≡ rest)
 passed told rest = at (told .answer) refl
   where
     at : (a : Answer) → told .answer ≡ a → goOn a told rest .told .answer ≡ Accepted → (told .answer ≡ Accepted) × (goOn a told rest ≡ rest)
     at Accepted e h = (e, refl)
     at (Refused r) e h = absurd (let z : Refused r ≡ Accepted = sym e ∙ h in let y : _≡_ {A = ℕ} 0 1 = cc in omega arith)
 
--- The name is the workout's.
-acts-name : (w : Workout) (p : TrainingProfile) (acts : List Act) (i : ℕ) (q : Player) → playActs w p acts i q .told .answer ≡ Accepted → playActs w p acts i q .name ≡ w .name
-unfolding playActs
-acts-name w p [] i q e = refl
-acts-name w p (act ∷ acts) i q e =
+-- Where no act is refused, the acts are the calls that they stand for.
+pub acts-ridden : (w : Workout) (p : TrainingProfile) (acts : List Act) (i : ℕ) (q : Player) → playActs w p acts i q .told .answer ≡ Accepted
+    → playActs w p acts i q ≡ riddenTo w (run p (callsOf acts) q .player)
+unfolding playActs callsOf run actCalled
+acts-ridden w p [] i q e = refl
+acts-ridden w p (act ∷ acts) i q e =
     let o = actCalled p act q in
     let rest = playActs w p acts (i + 1) (o .player) in
     let h = passed (atAct i (o .answer)) rest e in
-    ap (λ (r : Ridden). r .name) (h .1) ∙ acts-name w p acts (i + 1) (o .player) (sym (ap (λ (r : Ridden). r .told .answer) (h .1)) ∙ e)
+    h .1
+    ∙ acts-ridden w p acts (i + 1) (o .player) (sym (ap (λ (r : Ridden). r .told .answer) (h .1)) ∙ e)
+    ∙ ap (riddenTo w) (one act)
+  where
+    one : (act : Act) → run p (callsOf acts) (actCalled p act q .player) .player ≡ run p (callsOf (act ∷ acts)) q .player
+    one (Profile f) = refl
+    one (Read sample) = refl
+    one (variants.Ride ms mm) = refl
+    one Skip = refl
+    one Extend = refl
 
 name-passes : (w : Workout) → workoutAnswer w ≡ Accepted → nameOk (w .name) ≡ true
 unfolding formOk
@@ -212,11 +225,20 @@ module _ (file s : List ℕ) (room : ℕ) where
         acts-played h =
             sym (past-sheet ∙ ap (λ (b : Bool). unlessRefused (atNoAct (ask b refusals.Output Accepted)) (playSheet (made .player) s)) (le-leb 70 room h))
 
-  -- a record that is to be written passes the writer's questions
-  pub writes : (journal id start : ℕ) (dated : Bool) → riddenOf file s room .told .answer ≡ Accepted
-      → writeAnswer (replayRecord (riddenOf file s room) journal id start dated) room ≡ Accepted
-  unfolding riddenOf writeAnswer playSheet
-  writes journal id start dated e =
+  abbrev acts : List Act
+  acts = actsFrom s (countIn s) 1 (countIn s - 1)
+
+  -- A replay that isn't refused passed every question, and is the run of its calls.
+  pub record Accepts : Type 0 where
+    pub file-passes : d .answer ≡ Accepted
+    pub new-passes : made .answer ≡ Accepted
+    pub output-passes : output ≡ Accepted
+    pub profile-passes : profileAnswer (profileIn s) ≡ Accepted
+    pub ridden : riddenOf file s room ≡ riddenTo (made .player .workout) (run (profileIn s) (callsOf acts) (made .player) .player)
+
+  pub accepts : riddenOf file s room .told .answer ≡ Accepted → Accepts
+  unfolding riddenOf playSheet
+  accepts e =
       let a = passed (atNoAct (d .answer)) second e in
       let e₁ : second .told .answer ≡ Accepted = sym (ap (λ (r : Ridden). r .told .answer) (a .1)) ∙ e in
       let b = passed (atNoAct (made .answer)) third e₁ in
@@ -224,16 +246,28 @@ module _ (file s : List ℕ) (room : ℕ) where
       let k = passed (checkOf s) last e₂ in
       let e₃ : last .told .answer ≡ Accepted = sym (ap (λ (r : Ridden). r .told .answer) (k .1)) ∙ e₂ in
       let o = passed (atNoAct output) (playSheet (made .player) s) e₃ in
-      let w = made .player .workout in
-      let p = profileIn s in
-      let acts = playActs w p (actsFrom s (countIn s) 1 (countIn s - 1)) 1 (made .player) in
       let e₄ : playSheet (made .player) s .told .answer ≡ Accepted = sym (ap (λ (r : Ridden). r .told .answer) (o .1)) ∙ e₃ in
-      let q = passed (atAct 0 (profileAnswer p)) acts e₄ in
-      let e₅ : acts .told .answer ≡ Accepted = sym (ap (λ (r : Ridden). r .told .answer) (q .1)) ∙ e₄ in
-      let is : riddenOf file s room .name ≡ w .name =
-      ap (λ (r : Ridden). r .name) (a .1 ∙ b .1 ∙ k .1 ∙ o .1 ∙ q .1) ∙ acts-name w p (actsFrom s (countIn s) 1 (countIn s - 1)) 1 (made .player) e₅ in
-      let ok : nameOk (riddenOf file s room .name) ≡ true = ap nameOk is ∙ name-passes w (new-fresh (d .workout) (b .0) .passes) in
-      ap (λ (t : Bool). ask t refusals.Field output) ok ∙ o .0
+      let w = made .player .workout in
+      let rest = playActs w (profileIn s) acts 1 (made .player) in
+      let q = passed (atAct 0 (profileAnswer (profileIn s))) rest e₄ in
+      let e₅ : rest .told .answer ≡ Accepted = sym (ap (λ (r : Ridden). r .told .answer) (q .1)) ∙ e₄ in
+      record {
+        file-passes = a .0;
+        new-passes = b .0;
+        output-passes = o .0;
+        profile-passes = q .0;
+        ridden = a .1 ∙ b .1 ∙ k .1 ∙ o .1 ∙ q .1 ∙ acts-ridden w (profileIn s) acts 1 (made .player) e₅;
+      }
+
+  -- a record that is to be written passes the writer's questions
+  pub writes : (journal id start : ℕ) (dated : Bool) → riddenOf file s room .told .answer ≡ Accepted
+      → writeAnswer (replayRecord (riddenOf file s room) journal id start dated) room ≡ Accepted
+  unfolding writeAnswer
+  writes journal id start dated e =
+      let h = accepts e in
+      let ok : nameOk (riddenOf file s room .name) ≡ true =
+      ap (λ (r : Ridden). nameOk (r .name)) (h .ridden) ∙ name-passes (made .player .workout) (new-fresh (d .workout) (h .new-passes) .passes) in
+      ap (λ (t : Bool). ask t refusals.Field output) ok ∙ h .output-passes
 
 -- The output.
 module _ (file s : List ℕ) (journal id start : ℕ) (dated : Bool) (out : List ℕ) where

@@ -23,7 +23,7 @@ use Rattle.standing.specs.Standing.{standingOf, cadenceIn}
 use Rattle.start.specs.Start.{noSummary}
 use Rattle.updates.specs.declared.ExtendedCore.{ExtendedCore}
 use Rattle.updates.specs.Updates.{Called, eventless, playerOf, extendCore}
-use Rattle.machine.specs.Cutting.{read, ride, skip, extend}
+use Rattle.machine.specs.Cutting.{Call, read, ride, skip, extend}
 use Rattle.machine.specs.Runs.{called}
 use Rattle.sheet.specs.declared.Act.{Act}
 use Rattle.sheet.specs.declared.Act.the-variants.{Profile, Read, Ride, Skip, Extend}
@@ -74,6 +74,15 @@ unfoldable pub playActs : Workout → TrainingProfile → List Act → ℕ → P
 playActs w p [] i player = riddenTo w player
 playActs w p (act ∷ acts) i player =
     unlessRefused (atAct i (actCalled p act player .answer)) (playActs w p acts (i + 1) (actCalled p act player .player))
+
+-- The calls that acts stand for, in their order.
+unfoldable pub callsOf : List Act → List Call
+callsOf [] = []
+callsOf (Profile f ∷ acts) = callsOf acts
+callsOf (Read sample ∷ acts) = read sample ∷ callsOf acts
+callsOf (Ride ms mm ∷ acts) = ride (ms .0) (mm .0) places places ∷ callsOf acts
+callsOf (Skip ∷ acts) = skip places places ∷ callsOf acts
+callsOf (Extend ∷ acts) = extend ∷ callsOf acts
 
 -- What the functions that play an act suppose and give. The player is that of its core and minute.
 

@@ -1,0 +1,50 @@
+/* Plays the fixed list of whole replays, tests/c/replays (tests/oracle/list.rs has its layout), through the call of
+ * include/console.h, and holds each answer, act and output byte to the list's. Fails at the first that differs. */
+#include <stdio.h>
+#include <string.h>
+
+#include "console.h"
+
+enum { MOST = 1 << 20, LENT = 80, FILLED = 0xA5 };
+
+static uint8_t list[MOST];
+static size_t size, at;
+static int cut;
+
+static const uint8_t *bytes(size_t n) {
+  if (cut || size - at < n) {
+    cut = 1;
+    return list;
+  }
+  at += n;
+  return list + at - n;
+}
+
+static uint32_t number(void) {
+  const uint8_t *b = bytes(4);
+  return b[0] | (uint32_t)b[1] << 8 | (uint32_t)b[2] << 16 | (uint32_t)b[3] << 24;
+}
+
+int main(int words, char **word) {
+  unsigned replays = 0, accepted = 0;
+  FILE *file = words == 2 ? fopen(word[1], "rb") : NULL;
+  if (!file || !(size = fread(list, 1, MOST, file)) || size == MOST) return puts("the list can't be read"), 1;
+  fclose(file);
+  for (; at < size; replays++) {
+    uint8_t out[LENT], want[LENT];
+    uint32_t workout_len = number(), sheet_len = number();
+    const uint8_t *workout = bytes(workout_len), *sheet = bytes(sheet_len);
+    uint32_t journal = number(), id = number();
+    uint64_t low = number(), start = low | (uint64_t)number() << 32;
+    uint32_t dated = number(), lent = number(), refusal = number(), act = number();
+    const uint8_t *record = bytes(72);
+    if (cut || lent > LENT) return puts("the list is cut short"), 1;
+    memset(out, FILLED, LENT);
+    memset(want, FILLED, LENT);
+    if (refusal == 0) memcpy(want, record, REPLAY_RECORD_LENGTH), accepted++;
+    replayed got = replay(workout, workout_len, sheet, sheet_len, (uint8_t)journal, id, start, dated, out, lent);
+    if (got.refusal != refusal || got.act != act || memcmp(out, want, LENT)) return printf("replay %u of the list differs\n", replays), 1;
+  }
+  printf("the fixed list: %u replays, %u accepted, as the Rust has them\n", replays, accepted);
+  return replays < 500 || accepted == 0;
+}
