@@ -5,6 +5,7 @@ use mathlib.Core.List.{List, []}
 use Prim.Native.Nat.{ℕ, _+_}
 use lib.Dec.{leb}
 use lib.ListN.{length}
+use native.Mathlib.Omega.{arith}
 use Rattle.refusal.specs.declared.Answer.{Answer}
 use Rattle.refusal.specs.declared.Answer.the-variants.{Accepted, Refused}
 use Rattle.refusal.specs.declared.Refusal.{Refusal}
@@ -41,7 +42,12 @@ use Rattle.sheet.specs.declared.Act.{Act}
 use Rattle.sheet.specs.declared.Act.the-variants.{Profile, Read, Skip, Extend}
 use Rattle.sheet.specs.declared.Act.the-variants as acts
 use Rattle.replay.specs.declared.Acted.{Acted}
-use Rattle.replay.specs.Acts.{actCalled, Ready, Acts, eventlessAct, readAct, skipOutcome, Skips, ofExtended, extendAct}
+use Rattle.replay.specs.Acts.{actCalled, Ready, Acts, isQuiet, eventlessAct, skipOutcome, Skips, ofExtended, extendAct}
+
+-- question 11, then the reading
+abbrev readAct : Sample → Core → Acted
+readAct sample c =
+    cond (cadenceIn (sample .«cadence_tenths»)) (eventlessAct Accepted (readCore sample c)) (eventlessAct (Refused refusals.Cadence) c)
 
 -- more time or way leaves the step on now
 extend-on : (secs metres : ℕ) (l : Length) (c : Core) → extendCore secs metres l c .core .on ≡ c .on
@@ -159,6 +165,10 @@ module _ (w : Workout) (c : Core) (ks vs : List ℕ) where
   skip-moved ks' vs' r d o =
       subst (λ (b : Bool). Skips ks vs ks' vs' (record { answer = Accepted; core = r .core; events = r .count }) (cond b (record { core = c; events = [] }) (nextOf w true c))) (sym d)
       (record { answer = refl; core = o .core; wrote = o .wrote })
+
+-- an act that reads or rides is none of the others
+pub not-quiet : (act known-as : Act) → act ≡ known-as → isQuiet known-as ≡ false → isQuiet act ≡ true → ⊥
+not-quiet act known-as e f t = let z : _≡_ {A = ℕ} 0 1 = ap (λ (b : Bool). cond b 1 0) (sym f ∙ sym (ap isQuiet e) ∙ t) in omega arith
 
 -- every act keeps standing
 act-kept : (p : TrainingProfile) (act : Act) (player : Player) → PlayerFits player → standingOf player ≡ true → standingOf (actCalled p act player .player) ≡ true

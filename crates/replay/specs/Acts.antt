@@ -1,25 +1,22 @@
 -- What an act of a ride sheet makes of the player, and the acts one after the other. (An act is document 01's word for an entry of a
 -- ride sheet.)
 use mathlib.Core.Path.{_≡_}
-use mathlib.Core.Bool.{true, cond}
+use mathlib.Core.Bool.{Bool, true, false, cond}
 use mathlib.Core.List.{List, [], _∷_}
 use Prim.Native.Nat.{ℕ, _+_}
 use lib.ListN.{length}
 use Rattle.refusal.specs.declared.Answer.{Answer}
 use Rattle.refusal.specs.declared.Answer.the-variants.{Accepted, Refused}
-use Rattle.refusal.specs.declared.Refusal.the-variants as refusals
 use Rattle.names.specs.Names.{emptyName}
 use Rattle.zones.specs.declared.TrainingProfile.{TrainingProfile}
 use Rattle.model.specs.declared.Test.the-variants as tests
 use Rattle.model.specs.declared.Workout.{Workout}
-use Rattle.readings.specs.declared.Sample.{Sample}
 use Rattle.events.specs.Events.{Wrote}
 use Rattle.state.specs.declared.Core.{Core}
 use Rattle.state.specs.declared.Player.{Player}
-use Rattle.state.specs.State.{readCore}
 use Rattle.step_end.specs.StepEnd.{Outcome, nextOf}
 use Rattle.rounds.specs.Rounds.{riding}
-use Rattle.standing.specs.Standing.{standingOf, cadenceIn}
+use Rattle.standing.specs.Standing.{standingOf}
 use Rattle.start.specs.Start.{noSummary}
 use Rattle.updates.specs.declared.ExtendedCore.{ExtendedCore}
 use Rattle.updates.specs.Updates.{Called, eventless, playerOf, extendCore}
@@ -99,9 +96,13 @@ pub record Acts (w : Workout) (minute' ks vs ks' vs' : List ℕ) (r : Acted) (o 
 abbrev pub eventlessAct : Answer → Core → Acted
 eventlessAct answer c = record { answer = answer; core = c; events = 0 }
 
-abbrev pub readAct : Sample → Core → Acted
-readAct sample c =
-    cond (cadenceIn (sample .«cadence_tenths»)) (eventlessAct Accepted (readCore sample c)) (eventlessAct (Refused refusals.Cadence) c)
+-- The acts that neither read nor ride.
+abbrev pub isQuiet : Act → Bool
+isQuiet (Profile f) = true
+isQuiet (Read sample) = false
+isQuiet (Ride ms mm) = false
+isQuiet Skip = true
+isQuiet Extend = true
 
 -- Once nothing is left to be asked, a skip does nothing when finished, and else ends the step.
 abbrev pub skipOutcome : Workout → Core → Outcome

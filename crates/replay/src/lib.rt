@@ -8,10 +8,8 @@ ghost use Rattle.zones.specs.Zones.{profileOk};
 ghost use Rattle.rounds.specs.Rounds.{riding};
 ghost use Rattle.step_end.specs.StepEnd.{NextFits};
 ghost use Rattle.updates.specs.Updates.{ExtraFits, playerOf};
-ghost use Rattle.machine.specs.Cutting.{ride};
-ghost use Rattle.machine.specs.Runs.{called};
 ghost use Rattle.sheet.specs.Sheet.{sizeOk, actsFrom};
-ghost use Rattle.replay.specs.Acts.{actCalled, nothingRidden, playActs, Ready, Acts, eventlessAct, readAct, skipOutcome, Skips, extendAct};
+ghost use Rattle.replay.specs.Acts.{actCalled, nothingRidden, playActs, Ready, Acts, isQuiet, eventlessAct, skipOutcome, Skips, extendAct};
 ghost use Rattle.replay.specs.Replay.{Fresh, playSheet, riddenOf, replayAnswer, replayOutput};
 use history::Record;
 use history::start_of;
@@ -22,11 +20,14 @@ use names::Name;
 use player::EXTEND_M;
 use player::EXTEND_S;
 use player::update_answer;
-use readings::Sample;
 use record_writer::RECORD_BYTES;
 use record_writer::encode;
 use refusal::Answer;
 use refusal::Refusal;
+use rounds::Ride;
+use rounds::end_step;
+use rounds::is_stopped;
+use rounds::turn;
 use sheet::Act;
 use sheet::ActAnswer;
 use sheet::ActOption;
@@ -35,6 +36,7 @@ use sheet::act_at;
 use sheet::count_of;
 use sheet::profile_at;
 use sheet::refused_at;
+use sheet::sample_at;
 use standing::cadence_in;
 use start::no_summary;
 use state::Core;
@@ -42,9 +44,10 @@ use state::Mm;
 use state::Ms;
 use state::Player;
 use state::Summary;
+use step_end::is_over;
 use step_end::next;
+use updates::add_totals;
 use updates::extend_core;
-use updates::ride_core;
 use zones::TrainingProfile;
 
 // What a sheet came to: the answer, and what the record takes from workout and player; refused, nothing.
@@ -69,46 +72,6 @@ fn eventless(core: Core, answer: Answer) -> Acted
         answer,
         core,
         events: 0,
-    }
-}
-
-fn read_act(core: Core, sample: Sample) -> Acted
-    ensures { λ r. ⌜ r ≡ readAct sample core ⌝ }
-{
-    let cadence = sample.cadence_tenths;
-    if cadence_in(cadence) {
-        return eventless(core.read(sample), Answer::Accepted);
-    }
-    eventless(core, Answer::Refused(Refusal::Cadence))
-}
-
-fn ride_act(
-    workout: Workout,
-    profile: TrainingProfile,
-    core: Core,
-    ms: Ms,
-    mm: Mm,
-    minute: &mut [u16; 60],
-    kinds: &mut [u8],
-    values: &mut [u16],
-) -> Acted
-    requires { ⌜ Ready workout core (now minute) × (profileOk profile ≡ true) × (length (now kinds) ≡ 193) × (length (now values) ≡ 193) ⌝ }
-    ensures { λ r. ⌜ Acts workout (now (minute .exit)) (now (kinds .entry)) (now (values .entry)) (now (kinds .exit)) (now (values .exit)) r (called profile (ride (ms .0) (mm .0) 193 193) (playerOf workout (riding core (now (minute .entry))))) × (length (now (minute .exit)) ≡ 60) ⌝ }
-{
-    match update_answer(core, ms, mm, 193, 193) {
-        Answer::Accepted => {
-            if ms.0 == 0 {
-                return eventless(core, Answer::Accepted);
-            }
-            let ridden = ride_core(workout, core, ms, mm, profile, minute, kinds, values);
-            let after = ridden.core;
-            Acted {
-                answer: Answer::Accepted,
-                core: after,
-                events: ridden.count,
-            }
-        }
-        Answer::Refused(refusal) => eventless(core, Answer::Refused(refusal)),
     }
 }
 
@@ -141,8 +104,8 @@ fn extend_act(core: Core) -> Acted
     eventless(after, answer)
 }
 
-// One act, as the call that it stands for.
-fn play_act(
+// One act that neither reads nor rides, as the call that it stands for; `play` has those two itself.
+fn quiet_act(
     workout: Workout,
     profile: TrainingProfile,
     core: Core,
@@ -151,7 +114,7 @@ fn play_act(
     kinds: &mut [u8],
     values: &mut [u16],
 ) -> Acted
-    requires { ⌜ Ready workout core (now minute) × (profileOk profile ≡ true) × (length (now kinds) ≡ 193) × (length (now values) ≡ 193) ⌝ }
+    requires { ⌜ Ready workout core (now minute) × (isQuiet act ≡ true) × (length (now kinds) ≡ 193) × (length (now values) ≡ 193) ⌝ }
     ensures { λ r. ⌜ Acts workout (now (minute .exit)) (now (kinds .entry)) (now (values .entry)) (now (kinds .exit)) (now (values .exit)) r (actCalled profile act (playerOf workout (riding core (now (minute .entry))))) × Ready workout (r .core) (now (minute .exit)) ⌝ }
 {
     // That the last reading has 16 bits is part of what the player after the act stands on.
@@ -161,8 +124,8 @@ fn play_act(
     reading_fits(power);
     match act {
         Act::Profile(_) => eventless(core, Answer::Accepted),
-        Act::Read(taken) => read_act(core, taken),
-        Act::Ride(ms, mm) => ride_act(workout, profile, core, ms, mm, minute, kinds, values),
+        Act::Read(_) => eventless(core, Answer::Accepted),
+        Act::Ride(_, _) => eventless(core, Answer::Accepted),
         Act::Skip => skip_act(workout, core, kinds, values),
         Act::Extend => extend_act(core),
     }
@@ -179,7 +142,8 @@ fn nothing_ridden(told: ActAnswer) -> Ridden
     }
 }
 
-// The acts from act 1 on.
+// The acts from act 1 on. The loop of a ride stands in the loop of the acts, so that the workout is handed on only where a step ends:
+// passed by value at each ride or round, its copies took most of a replay's time.
 fn play(fresh: Player, profile: TrainingProfile, sheet: &[u8], n: usize) -> Ridden
     requires { ⌜ Ready (fresh .workout) (fresh .core) (fresh .minute) × (profileOk profile ≡ true) × (1 ≤ n) × (n ≤ 4096) × (length (now sheet) ≡ 2 + 9 * n) ⌝ }
     ensures { λ r. ⌜ r ≡ playActs (fresh .workout) profile (actsFrom (now (sheet .entry)) n 1 (n - 1)) 1 (playerOf (fresh .workout) (riding (fresh .core) (fresh .minute))) ⌝ }
@@ -189,13 +153,67 @@ fn play(fresh: Player, profile: TrainingProfile, sheet: &[u8], n: usize) -> Ridd
     let workout = fresh.workout;
     let mut minute = fresh.minute;
     let mut core = fresh.core;
+    let test = workout.test;
     let mut i: usize = 1;
     while i < n {
+        // That the last reading has 16 bits is part of what the player after the act stands on.
+        let readings = core.readings;
+        let last = readings.last_sample;
+        let power = last.power_watts;
+        reading_fits(power);
+        let kind = sheet[2 + i];
+        let at = 2 + n + 8 * i;
+        if kind == 2 {
+            let ms = Ms(le::get_u32(sheet, at) as u64);
+            let mm = Mm(le::get_u32(sheet, at + 4) as u64);
+            let asked = update_answer(core, ms, mm, 193, 193);
+            if let Answer::Refused(refusal) = asked {
+                return nothing_ridden(refused_at(refusal, ActOption::Some(i as u16)));
+            }
+            if ms.0 == 0 {
+                i += 1;
+                continue;
+            }
+            let mut ride = Ride {
+                core: add_totals(core, ms, mm),
+                ms,
+                mm,
+                count: 0,
+                parts: 0,
+            };
+            let mut j: usize = 0;
+            while (j < 97) & !is_stopped(ride) {
+                let turned = turn(ride, test, profile, &mut minute, &mut kinds, &mut values);
+                let ridden = turned.core;
+                j += 1;
+                if is_over(ridden, profile) {
+                    // A copy, so that the ride itself never has to lie in memory.
+                    let ended = turned;
+                    ride = end_step(workout, ended, &mut kinds, &mut values);
+                    continue;
+                }
+                ride = turned;
+            }
+            core = ride.core;
+            i += 1;
+            continue;
+        }
+        if kind == 1 {
+            let sample = sample_at(sheet, at);
+            let cadence = sample.cadence_tenths;
+            if !cadence_in(cadence) {
+                return nothing_ridden(refused_at(Refusal::Cadence, ActOption::Some(i as u16)));
+            }
+            core = core.read(sample);
+            i += 1;
+            continue;
+        }
         let act = act_at(sheet, n, i);
-        let acted = play_act(
+        let before = core;
+        let acted = quiet_act(
             workout,
             profile,
-            core,
+            before,
             act,
             &mut minute,
             &mut kinds,
@@ -209,7 +227,6 @@ fn play(fresh: Player, profile: TrainingProfile, sheet: &[u8], n: usize) -> Ridd
         i += 1;
     }
     let name = workout.name;
-    let test = workout.test;
     let summary = core.summary;
     Ridden {
         told: accepted_all(),

@@ -2,3 +2,4 @@ pub mod Parts
 pub mod Keeps
 pub mod One
 pub mod Loop
+pub mod Turns

@@ -2,9 +2,10 @@
 use mathlib.Core.Path.{_≡_}
 use mathlib.Core.Bool.{false}
 use mathlib.Core.List.{List}
-use Prim.Native.Nat.{ℕ, _+_, _-_, _*_, _≤_}
+use Prim.Native.Nat.{ℕ, _+_, _-_, _*_, _≤_, _<_}
 use lib.ListN.{length}
 use Rattle.zones.specs.declared.TrainingProfile.{TrainingProfile}
+use Rattle.model.specs.declared.Test.{Test}
 use Rattle.model.specs.declared.Workout.{Workout}
 use Rattle.order.specs.Order.{playedLen}
 use Rattle.events.specs.Events.{Wrote}
@@ -12,9 +13,10 @@ use Rattle.state.specs.declared.Core.{Core}
 use Rattle.state.specs.declared.Part.{Part}
 use Rattle.state.specs.State.{TallyFits, untilEnd}
 use Rattle.measure.specs.Measure.{MeasureFits}
+use Rattle.step_end.specs.StepEnd.{Outcome, countdownsOf}
 use Rattle.standing.specs.Facts.{Stands}
 use Rattle.rounds.specs.declared.Ride.{Ride}
-use Rattle.rounds.specs.Rounds.{riding, ridingOf, roundOf, rounds, isStopped}
+use Rattle.rounds.specs.Rounds.{riding, ridingOf, advanced, roundOf, rounds, isStopped}
 
 -- No sum of a part passes its limit.
 pub record AdvanceFits (c : Core) (ms mm : ℕ) : Type 0 where
@@ -35,7 +37,36 @@ pub record Rides (w : Workout) (s : Ride) (ks vs : ℕ) : Type 0 where
 abbrev pub partOf : Ride → Part
 partOf s = untilEnd (s .core) (s .ms .0) (s .mm .0)
 
--- The ride after one round of it. The bound is of a sum of 16-bit readings.
+-- What the part until the step's end supposes: time and way within question 12's limits, no sum that passes its own, and places for
+-- the last seconds' events.
+pub record TurnFits (s : Ride) (ks vs : ℕ) : Type 0 where
+  pub left-ms : s .ms .0 ≤ 86400000
+  pub left-mm : s .mm .0 ≤ 1000000000
+  pub advance : AdvanceFits (s .core) (partOf s .ms .0) (partOf s .mm .0)
+  pub ms : partOf s .ms .0 ≤ s .ms .0
+  pub mm : partOf s .mm .0 ≤ s .mm .0
+  pub parts : s .parts < 97
+  pub kinds : s .count + 3 ≤ ks
+  pub values : s .count + 3 ≤ vs
+
+-- The ride after that part. The bound is of a sum of 16-bit readings.
+pub record Turned (test : Test) (p : TrainingProfile) (m m' ks vs ks' vs' : List ℕ) (s r : Ride) : Type 0 where
+  pub riding-is : riding (r .core) m' ≡ advanced test p (partOf s .ms .0) (partOf s .mm .0) (riding (s .core) m)
+  pub ms : r .ms .0 ≡ s .ms .0 - partOf s .ms .0
+  pub mm : r .mm .0 ≡ s .mm .0 - partOf s .mm .0
+  pub parts : r .parts ≡ s .parts + 1
+  pub wrote : Wrote ks vs (s .count) ks' vs' (r .count) (countdownsOf (r .core .on .length) (r .core .lap) (s .core .lap .«step_ms»))
+  pub energy : r .core .measured .«test_mj» ≤ 65535 * r .core .measured .«test_ms»
+
+-- The ride after a step's end.
+pub record Ended (ks vs ks' vs' : List ℕ) (s r : Ride) (o : Outcome) : Type 0 where
+  pub core : r .core ≡ o .core
+  pub ms : r .ms ≡ s .ms
+  pub mm : r .mm ≡ s .mm
+  pub parts : r .parts ≡ s .parts
+  pub wrote : Wrote ks vs (s .count) ks' vs' (r .count) (o .events)
+
+-- The ride after one round of it.
 pub record Round (w : Workout) (p : TrainingProfile) (m m' ks vs ks' vs' : List ℕ) (s r : Ride) : Type 0 where
   pub riding-is : riding (r .core) m' ≡ ridingOf (roundOf w p (partOf s) (riding (s .core) m))
   pub ms : r .ms .0 ≡ s .ms .0 - partOf s .ms .0

@@ -1,11 +1,11 @@
 // player.rs's `account` and the loop of `add`: an update's parts, each of which ends a step or uses the update up.
 ghost use mathlib.Core.Path.{_≡_};
-ghost use mathlib.Core.Bool.{true, false};
+ghost use mathlib.Core.Bool.{false};
 ghost use Prim.Native.Nat.{_+_, _*_, _≤_, _<_};
 ghost use lib.ListN.{length};
-ghost use Rattle.step_end.specs.StepEnd.{isOver, Moves, NextFits};
-ghost use Rattle.rounds.specs.Rounds.{riding, advanced, closed, isStopped};
-ghost use Rattle.rounds.specs.Contracted.{AdvanceFits, Rides, Round, Ridden};
+ghost use Rattle.step_end.specs.StepEnd.{NextFits, nextOf};
+ghost use Rattle.rounds.specs.Rounds.{riding, advanced, isStopped};
+ghost use Rattle.rounds.specs.Contracted.{AdvanceFits, Rides, TurnFits, Turned, Ended, Round, Ridden};
 use measure::measure;
 use model::Test;
 use model::Workout;
@@ -13,7 +13,6 @@ use state::Core;
 use state::Lap;
 use state::Mm;
 use state::Ms;
-use step_end::Moved;
 use step_end::countdown;
 use step_end::is_over;
 use step_end::next;
@@ -64,25 +63,57 @@ fn advance(
     q
 }
 
-// The end of the step on now, if it has come.
-fn close(
-    workout: Workout,
+// The part of a round until the step's end. It needs no workout, so that a loop that owns one need not hand it on.
+pub fn turn(
+    ride: Ride,
+    test: Test,
     profile: TrainingProfile,
-    core: Core,
+    minute: &mut [u16; 60],
     kinds: &mut [u8],
     values: &mut [u16],
-    count: usize,
-) -> Moved
-    requires { ⌜ NextFits core × (isOver profile core ≡ true → (count + 2 ≤ length (now kinds)) × (count + 2 ≤ length (now values))) ⌝ }
-    ensures { λ r. ⌜ Moves (now (kinds .entry)) (now (values .entry)) count (now (kinds .exit)) (now (values .exit)) r (closed workout profile core) ⌝ }
+) -> Ride
+    requires { ⌜ TurnFits ride (length (now kinds)) (length (now values)) × (length (now minute) ≡ 60) ⌝ }
+    ensures { λ r. ⌜ Turned test profile (now (minute .entry)) (now (minute .exit)) (now (kinds .entry)) (now (values .entry)) (now (kinds .exit)) (now (values .exit)) ride r ⌝ }
 {
-    if is_over(core, profile) {
-        return next(workout, core, false, kinds, values, count);
+    let core = ride.core;
+    let before = core.lap;
+    let ms = ride.ms;
+    let mm = ride.mm;
+    let part = core.until_end(ms, mm);
+    let ridden = advance(core, test, profile, part.ms.0, part.mm.0, minute);
+    let on = ridden.on;
+    let lasts = on.length;
+    let lap = ridden.lap;
+    let counted = countdown(lasts, lap, before.step_ms, kinds, values, ride.count);
+    Ride {
+        core: ridden,
+        ms: Ms(ms.0 - part.ms.0),
+        mm: Mm(mm.0 - part.mm.0),
+        count: counted,
+        parts: ride.parts + 1,
     }
-    Moved { core, count }
 }
 
-// One round: the part until the step's end, and the end.
+// The end of a step that has come to it.
+pub fn end_step(workout: Workout, ride: Ride, kinds: &mut [u8], values: &mut [u16]) -> Ride
+    requires { ⌜ NextFits (ride .core) × (ride .count + 2 ≤ length (now kinds)) × (ride .count + 2 ≤ length (now values)) ⌝ }
+    ensures { λ r. ⌜ Ended (now (kinds .entry)) (now (values .entry)) (now (kinds .exit)) (now (values .exit)) ride r (nextOf workout false (ride .core)) ⌝ }
+{
+    let core = ride.core;
+    let ms = ride.ms;
+    let mm = ride.mm;
+    let moved = next(workout, core, false, kinds, values, ride.count);
+    let after = moved.core;
+    Ride {
+        core: after,
+        ms,
+        mm,
+        count: moved.count,
+        parts: ride.parts,
+    }
+}
+
+// One round: the part until the step's end, and the end, if it has come.
 fn round(
     workout: Workout,
     profile: TrainingProfile,
@@ -94,30 +125,17 @@ fn round(
     requires { ⌜ Rides workout ride (length (now kinds)) (length (now values)) × (isStopped (ride .core .done) (ride .ms .0) ≡ false) × (length (now minute) ≡ 60) × (ride .parts < 97) ⌝ }
     ensures { λ r. ⌜ Round workout profile (now (minute .entry)) (now (minute .exit)) (now (kinds .entry)) (now (values .entry)) (now (kinds .exit)) (now (values .exit)) ride r ⌝ }
 {
-    let core = ride.core;
     let test = workout.test;
-    let before = core.lap;
-    let ms = ride.ms;
-    let mm = ride.mm;
-    let part = core.until_end(ms, mm);
-    let ridden = advance(core, test, profile, part.ms.0, part.mm.0, minute);
-    let on = ridden.on;
-    let lasts = on.length;
-    let lap = ridden.lap;
-    let counted = countdown(lasts, lap, before.step_ms, kinds, values, ride.count);
-    let moved = close(workout, profile, ridden, kinds, values, counted);
-    let after = moved.core;
-    Ride {
-        core: after,
-        ms: Ms(ms.0 - part.ms.0),
-        mm: Mm(mm.0 - part.mm.0),
-        count: moved.count,
-        parts: ride.parts + 1,
+    let turned = turn(ride, test, profile, minute, kinds, values);
+    let core = turned.core;
+    if is_over(core, profile) {
+        return end_step(workout, turned, kinds, values);
     }
+    turned
 }
 
 // The workout is done, or the update is used up.
-fn is_stopped(ride: Ride) -> bool
+pub fn is_stopped(ride: Ride) -> bool
     ensures { λ r. ⌜ r ≡ isStopped (ride .core .done) (ride .ms .0) ⌝ }
 {
     let core = ride.core;

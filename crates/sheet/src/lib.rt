@@ -86,7 +86,7 @@ fn is_absent_ok(present: bool, value: u16) -> bool
     present | (value == 0)
 }
 
-fn sample_at(sheet: &[u8], at: usize) -> Sample
+pub fn sample_at(sheet: &[u8], at: usize) -> Sample
     requires { ⌜ at + 8 ≤ length (now sheet) ⌝ }
     ensures { λ r. ⌜ r ≡ sampleAt (now (sheet .entry)) at ⌝ }
 {

@@ -93,7 +93,8 @@ pub fn with_core(player: Player, core: Core) -> Player
     q
 }
 
-fn add_totals(core: Core, ms: Ms, mm: Mm) -> Core
+// The totals grow by what is then still to be ridden.
+pub fn add_totals(core: Core, ms: Ms, mm: Mm) -> Core
     requires { ⌜ (core .«total_ms» .0 + ms .0 ≤ 604800000) × (core .«total_mm» .0 + mm .0 ≤ 7000000000) ⌝ }
     ensures { λ r. ⌜ r ≡ totalled (ms .0) (mm .0) core ⌝ }
 {

@@ -1,89 +1,51 @@
--- `round`: there are places for the events of this round, and its outcome is the definition's (One).
-use Rattle.state.specs.declared.Measured.{Measured}
-use Rattle.state.specs.declared.Part.{Part}
-use Rattle.state.specs.declared.Core.{Core}
-use Rattle.events.proofs.Laws.{wrote-then}
-use Rattle.events.specs.Events.{Wrote}
-use Prim.Native.Nat.{_-_, ℕ, _+_, _*_, _≤_}
-use Rattle.rounds.proofs.One.{advance-fits, unended, the-part, next-fits, after-part, round-made, closed-measured}
-use Rattle.rounds.proofs.Parts.{over-silent}
-use Rattle.rounds.specs.Rounds.{Riding, Rode, riding, ridingOf}
 use denote.Ref.{now}
-use lib.ListN.{length}
-use native.Mathlib.Omega.{arith}
-use mathlib.Core.Path.{sym, ap, subst, _∙_}
+-- `round`: its two parts make the round of the definition (Turns).
+use mathlib.Core.Path.{sym, _∙_}
+use Rattle.rounds.proofs.Turns.{turn-fits, end-fits, round-ended, round-left}
 use borrow.Author.Needs.{needs}
 use Rattle.rounds.proofs.round.Statement.{statement}
 use Rattle.rounds.proofs.round.Tie as tie
 
-until-end-requires : tie.Need-until-end-requires
-until-end-requires c κs = search needs
+turn-requires : tie.Need-turn-requires
+turn-requires c κs = let a = c .before .before .before .before .before .args in (turn-fits (a .workout) (a .ride) (now (a .kinds)) (now (a .values)) (c .before .before .before .before .before .pre .0) (c .before .before .before .before .before .pre .1) (c .before .before .before .before .before .pre .3), c .before .before .before .before .before .pre .2)
 
-advance-requires : tie.Need-advance-requires
-advance-requires c κs = let a = c .before .before .before .before .before .before .before .before .args in
-    (rw (c .before .until-end .ensures) (advance-fits (a .workout) (a .ride) _ _ (c .before .before .before .before .before .before .before .before .pre .0) (c .before .before .before .before .before .before .before .before .pre .1)), c .before .before .before .before .before .before .before .before .pre .2)
+is-over-requires : tie.Need-is-over-requires
+is-over-requires c κs = search needs
 
-countdown-requires : tie.Need-countdown-requires
-countdown-requires c κs = let a = c .before .before .before .before .before .before .before .before .before .before .before .before .before .args in (
-  omega (arith, c .before .before .before .before .before .before .before .before .before .before .before .before .before .pre .0 .kinds (c .before .before .before .before .before .before .before .before .before .before .before .before .before .pre .1), unended (a .workout) (a .ride) _ _ (c .before .before .before .before .before .before .before .before .before .before .before .before .before .pre .0) (c .before .before .before .before .before .before .before .before .before .before .before .before .before .pre .1)),
-  omega (arith, c .before .before .before .before .before .before .before .before .before .before .before .before .before .pre .0 .values (c .before .before .before .before .before .before .before .before .before .before .before .before .before .pre .1), unended (a .workout) (a .ride) _ _ (c .before .before .before .before .before .before .before .before .before .before .before .before .before .pre .0) (c .before .before .before .before .before .before .before .before .before .before .before .before .before .pre .1)),
-)
-
-close-requires : tie.Need-close-requires
-close-requires c κs = let a = c .before .before .before .before .before .before .before .before .before .before .before .before .before .before .before .before .before .before .before .before .args in
-    let q : Riding = riding (c .before .before .before .before .before .before .before .before .before .before .before .advance .result) (c .before .before .before .before .before .before .before .before .before .before .before .advance .last .1 .1 .1 .1 .1 .0) in (
-      next-fits _ _ (a .workout) (q .core) (after-part (a .workout) (a .ride) _ _ (c .before .before .before .before .before .before .before .before .before .before .before .before .before .before .before .before .before .before .before .before .pre .0) (c .before .before .before .before .before .before .before .before .before .before .before .before .before .before .before .before .before .before .before .before .pre .1) (a .profile) (now (a .minute)) (c .before .before .before .before .before .before .before .before .before .before .before .before .before .until-end .result) q (c .before .before .before .before .before .before .before .before .before .before .before .before .before .until-end .ensures) (c .before .before .before .before .before .before .before .before .before .before .before .advance .ensures .0) (c .before .before .before .before .before .before .before .before .before .before .before .advance .ensures .1)),
-      λ o.
-          let none = ap length (over-silent (a .profile) (c .before .before .before .before .before .before .before .before .before .before .before .advance .result) (a .ride .core .lap .«step_ms») o) in
-          let left = unended (a .workout) (a .ride) _ _ (c .before .before .before .before .before .before .before .before .before .before .before .before .before .before .before .before .before .before .before .before .pre .0) (c .before .before .before .before .before .before .before .before .before .before .before .before .before .before .before .before .before .before .before .before .pre .1) in (
-            omega (arith, none, left, c .before .before .before .before .before .before .countdown .ensures .count, c .before .before .before .before .before .before .before .before .before .before .before .before .before .before .before .before .before .before .before .before .pre .0 .kinds (c .before .before .before .before .before .before .before .before .before .before .before .before .before .before .before .before .before .before .before .before .pre .1), c .before .before .before .before .before .before .countdown .kept .1 .1 .1 .0),
-            omega (arith, none, left, c .before .before .before .before .before .before .countdown .ensures .count, c .before .before .before .before .before .before .before .before .before .before .before .before .before .before .before .before .before .before .before .before .pre .0 .values (c .before .before .before .before .before .before .before .before .before .before .before .before .before .before .before .before .before .before .before .before .pre .1), c .before .before .before .before .before .before .countdown .kept .1 .1 .1 .1 .0),
-          ),
-    )
-
-sub-t29 : tie.Need-sub-t29
-sub-t29 c = let a = c .before .before .before .before .before .before .before .before .before .before .before .before .before .before .before .before .before .before .before .before .before .before .before .before .before .before .before .before .args in
-    rw (c .before .before .before .before .before .before .before .before .before .before .before .before .before .before .before .before .before .before .before .before .before .until-end .ensures) (the-part (a .workout) (a .ride) _ _ (c .before .before .before .before .before .before .before .before .before .before .before .before .before .before .before .before .before .before .before .before .before .before .before .before .before .before .before .before .pre .0) (c .before .before .before .before .before .before .before .before .before .before .before .before .before .before .before .before .before .before .before .before .before .before .before .before .before .before .before .before .pre .1) .within-ms)
-
-sub-t31 : tie.Need-sub-t31
-sub-t31 c = let a = c .before .before .before .before .before .before .before .before .before .before .before .before .before .before .before .before .before .before .before .before .before .before .before .before .before .before .before .before .before .before .args in
-    rw (c .before .before .before .before .before .before .before .before .before .before .before .before .before .before .before .before .before .before .before .before .before .before .before .until-end .ensures) (the-part (a .workout) (a .ride) _ _ (c .before .before .before .before .before .before .before .before .before .before .before .before .before .before .before .before .before .before .before .before .before .before .before .before .before .before .before .before .before .before .pre .0) (c .before .before .before .before .before .before .before .before .before .before .before .before .before .before .before .before .before .before .before .before .before .before .before .before .before .before .before .before .before .before .pre .1) .within-mm)
-
-add-t33 : tie.Need-add-t33
-add-t33 c = omega (arith, c .before .before .before .before .before .before .before .before .before .before .before .before .before .before .before .before .before .before .before .before .before .before .before .before .before .before .before .before .before .before .before .pre .3)
+end-step-requires : tie.Need-end-step-requires
+end-step-requires c κs = let a = c .before .before .before .before .before .before .before .before .before .before .before .before .before .before .before .args in
+    end-fits (a .workout) (a .ride) _ _ (c .before .before .before .before .before .before .before .before .before .before .before .before .before .before .before .pre .0) (c .before .before .before .before .before .before .before .before .before .before .before .before .before .before .before .pre .1) (a .profile) (c .before .before .before .before .before .before .before .before .before .turn .result) (c .before .before .before .before .before .before .before .before .before .turn .ensures) (c .before .before .before .before .before .before .before .before .before .turn .kept .1 .1 .1 .1 .0) (c .before .before .before .before .before .before .before .before .before .turn .kept .1 .1 .1 .1 .1 .0) (sym (c .before .before .before .is-over .ensures) ∙ c .before .before .if1 .taken)
 
 same-length : tie.Need-same-length
-same-length c = c .before .before .before .before .before .before .before .before .before .before .close .kept .1 .1 .1 .0 ∙ c .before .before .before .before .before .before .before .before .before .before .before .before .before .before .before .before .before .countdown .kept .1 .1 .1 .0
+same-length c = search needs
 
 same-length-2 : tie.Need-same-length-2
-same-length-2 c = c .before .before .before .before .before .before .before .before .before .before .close .kept .1 .1 .1 .1 .0 ∙ c .before .before .before .before .before .before .before .before .before .before .before .before .before .before .before .before .before .countdown .kept .1 .1 .1 .1 .0
+same-length-2 c = search needs
 
 returns : tie.Need-returns
-returns c = let a = c .before .before .before .before .before .before .before .before .before .before .before .before .before .before .before .before .before .before .before .before .before .before .before .before .before .before .before .before .before .before .before .args in
-    let q : Riding = riding (c .before .before .before .before .before .before .before .before .before .before .before .before .before .before .before .before .before .before .before .before .before .before .advance .result) (c .before .before .before .before .before .before .before .before .before .before .before .before .before .before .before .before .before .before .before .before .before .before .advance .last .1 .1 .1 .1 .1 .0) in
-    let made = round-made (a .workout) (a .ride) _ _ (c .before .before .before .before .before .before .before .before .before .before .before .before .before .before .before .before .before .before .before .before .before .before .before .before .before .before .before .before .before .before .before .pre .0) (c .before .before .before .before .before .before .before .before .before .before .before .before .before .before .before .before .before .before .before .before .before .before .before .before .before .before .before .before .before .before .before .pre .1) (a .profile) (now (a .minute)) (c .before .before .before .before .before .before .before .before .before .before .before .before .before .before .before .before .before .before .before .before .before .before .before .before .until-end .result) q (c .before .before .before .before .before .before .before .before .before .before .before .before .before .before .before .before .before .before .before .before .before .before .before .before .until-end .ensures) (c .before .before .before .before .before .before .before .before .before .before .before .before .before .before .before .before .before .before .before .before .before .before .advance .ensures .0) in
-    let left = unended (a .workout) (a .ride) _ _ (c .before .before .before .before .before .before .before .before .before .before .before .before .before .before .before .before .before .before .before .before .before .before .before .before .before .before .before .before .before .before .before .pre .0) (c .before .before .before .before .before .before .before .before .before .before .before .before .before .before .before .before .before .before .before .before .before .before .before .before .before .before .before .before .before .before .before .pre .1) in
-    record {
-      riding-is = ap (λ (k : Core). riding k (q .watts)) (c .before .before .before .before .before .before .before .before .before .before .close .ensures .core) ∙ sym (ap ridingOf made);
-      ms = ap (λ (t : Part). a .ride .ms .0 - t .ms .0) (c .before .before .before .before .before .before .before .before .before .before .before .before .before .before .before .before .before .before .before .before .before .before .before .before .until-end .ensures);
-      mm = ap (λ (t : Part). a .ride .mm .0 - t .mm .0) (c .before .before .before .before .before .before .before .before .before .before .before .before .before .before .before .before .before .before .before .before .before .before .before .before .until-end .ensures);
-      parts = ap (λ (n : ℕ). a .ride .parts + n) (sym (ap (λ (k : Rode). k .parts) made));
-      wrote = subst (λ (k : Rode). Wrote (now (a .kinds)) (now (a .values)) (a .ride .count) (c .before .before .before .before .before .before .before .before .before .before .close .last .1 .1 .1 .0) (c .before .before .before .before .before .before .before .before .before .before .close .last .1 .1 .1 .1 .0) (c .before .before .before .before .before .before .before .before .before .before .close .result .count) (k .events)) (sym made)
-          (wrote-then (omega (arith, left, c .before .before .before .before .before .before .before .before .before .before .before .before .before .before .before .before .before .before .before .before .before .before .before .before .before .before .before .before .before .before .before .pre .0 .kinds (c .before .before .before .before .before .before .before .before .before .before .before .before .before .before .before .before .before .before .before .before .before .before .before .before .before .before .before .before .before .before .before .pre .1))) (omega (arith, left, c .before .before .before .before .before .before .before .before .before .before .before .before .before .before .before .before .before .before .before .before .before .before .before .before .before .before .before .before .before .before .before .pre .0 .values (c .before .before .before .before .before .before .before .before .before .before .before .before .before .before .before .before .before .before .before .before .before .before .before .before .before .before .before .before .before .before .before .pre .1))) (c .before .before .before .before .before .before .before .before .before .before .before .before .before .before .before .before .before .countdown .ensures) (c .before .before .before .before .before .before .before .before .before .before .close .ensures .wrote));
-      energy = subst (λ (m : Measured). m .«test_mj» ≤ 65535 * m .«test_ms») (sym (ap (λ (k : Core). k .measured) (c .before .before .before .before .before .before .before .before .before .before .close .ensures .core) ∙ closed-measured (a .workout) (a .profile) (c .before .before .before .before .before .before .before .before .before .before .before .before .before .before .before .before .before .before .before .before .before .before .advance .result))) (c .before .before .before .before .before .before .before .before .before .before .before .before .before .before .before .before .before .before .before .before .before .before .advance .ensures .1);
-    }
+returns c = let a = c .before .before .before .before .before .before .before .before .before .before .before .before .before .before .before .before .before .before .before .before .args in
+    round-ended (a .workout) (a .ride) _ _ (c .before .before .before .before .before .before .before .before .before .before .before .before .before .before .before .before .before .before .before .before .pre .0) (c .before .before .before .before .before .before .before .before .before .before .before .before .before .before .before .before .before .before .before .before .pre .1) (a .profile) (c .before .before .before .before .before .before .before .before .before .before .before .before .before .before .turn .result) (c .before .before .before .before .before .before .before .before .before .before .before .before .before .before .turn .ensures) (c .before .before .before .before .end-step .result) (sym (c .before .before .before .before .before .before .before .before .is-over .ensures) ∙ c .before .before .before .before .before .before .before .if1 .taken) (c .before .before .before .before .end-step .ensures)
+
+same-length-3 : tie.Need-same-length-3
+same-length-3 c = search needs
+
+same-length-4 : tie.Need-same-length-4
+same-length-4 c = search needs
+
+returns-2 : tie.Need-returns-2
+returns-2 c = let a = c .before .before .before .before .before .before .before .before .before .before .before .before .before .args in
+    round-left (a .workout) (a .ride) _ _ (c .before .before .before .before .before .before .before .before .before .before .before .before .before .pre .0) (c .before .before .before .before .before .before .before .before .before .before .before .before .before .pre .1) (a .profile) (c .before .before .before .before .before .before .before .turn .result) (c .before .before .before .before .before .before .before .turn .ensures) (sym (c .before .is-over .ensures) ∙ c .if1 .left)
 
 pub round-spec : {M : Type 1} → statement M
 round-spec =
     tie.close
     (tie.spec
-    until-end-requires
-    advance-requires
-    countdown-requires
-    close-requires
-    sub-t29
-    sub-t31
-    add-t33
+    turn-requires
+    is-over-requires
+    end-step-requires
     same-length
     same-length-2
-    returns)
+    returns
+    same-length-3
+    same-length-4
+    returns-2)
