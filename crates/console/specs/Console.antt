@@ -13,13 +13,13 @@ use Rattle.console.specs.declared.Replayed.{Replayed}
 abbrev pub answerNumber : Answer → ℕ
 answerNumber answer = numbers.answerNumber answer
 
--- "and, where it names one, its act", told apart from act 0 by a number that no act has
+-- "and, where it names one, its act", outcome apart from act 0 by a number that no act has
 abbrev pub actNumber : ActOption → ℕ
 actNumber None = 4294967295
 actNumber (Some act) = act
 
 abbrev pub replayedOf : ActAnswer → Replayed
-replayedOf told = record { refusal = answerNumber (told .answer); act = actNumber (told .act) }
+replayedOf outcome = record { refusal = answerNumber (outcome .answer); act = actNumber (outcome .act) }
 
 -- "(0 no, any other number yes)"
 abbrev pub isYes : ℕ → Bool

@@ -37,11 +37,11 @@ fn act_number(act: ActOption) -> u32
     }
 }
 
-fn in_numbers(told: ActAnswer) -> Replayed
-    ensures { λ r. ⌜ r ≡ replayedOf told ⌝ }
+fn in_numbers(outcome: ActAnswer) -> Replayed
+    ensures { λ r. ⌜ r ≡ replayedOf outcome ⌝ }
 {
-    let answer = told.answer;
-    let act = told.act;
+    let answer = outcome.answer;
+    let act = outcome.act;
     Replayed {
         refusal: answer_number(answer),
         act: act_number(act),

@@ -135,7 +135,7 @@ outcomeBy Accepted act s = summaryText s
 outcomeBy (Refused refusal) act s = refusalText refusal act
 
 unfoldable pub lineOf : Ridden → List ℕ
-lineOf r = outcomeBy (r .told .answer) (r .told .act) (r .summary) ++ newline
+lineOf r = outcomeBy (r .outcome .answer) (r .outcome .act) (r .summary) ++ newline
 
 -- What a writer gives: the place behind its bytes, and the bytes there. "Output bytes past those written stay."
 pub record Wrote (d : List ℕ) (at : ℕ) (d' : List ℕ) (r : ℕ) (bs : List ℕ) : Type 0 where

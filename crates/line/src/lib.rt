@@ -97,8 +97,8 @@ fn put_end(out: &mut [u8], at: usize, s: Summary) -> usize
 {
     let ftp = s.ftp;
     let finished = put_word(out, at, b" finished ");
-    let told = put_yes_or_no(out, finished, s.finished);
-    let measured = put_word(out, told, b" ftp ");
+    let answered = put_yes_or_no(out, finished, s.finished);
+    let measured = put_word(out, answered, b" ftp ");
     put_watts(out, measured, ftp)
 }
 
@@ -150,9 +150,9 @@ pub fn put_line(ridden: Ridden, out: &mut [u8; LINE_ROOM]) -> usize
     ensures { λ r. ⌜ r ≡ length (lineOf ridden) ⌝ }
     ensures { λ _. ⌜ now (out .exit) ≡ written (now (out .entry)) 0 (lineOf ridden) ⌝ }
 {
-    let told = ridden.told;
-    let answer = told.answer;
-    let act = told.act;
+    let outcome = ridden.outcome;
+    let answer = outcome.answer;
+    let act = outcome.act;
     let summary = ridden.summary;
     let end = put_outcome(out, answer, act, summary);
     put_word(out, end, b"\n")

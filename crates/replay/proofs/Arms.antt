@@ -35,6 +35,7 @@ use Rattle.sheet.specs.declared.Act.the-variants as acts
 use Rattle.sheet.specs.declared.ActOption.the-variants.{Some}
 use Rattle.sheet.specs.Sheet.{word4, kindIn, placeOf, sampleAt, actsAt, actIn, actsFrom, refusedAt}
 use Rattle.replay.specs.declared.Acted.{Acted}
+use Rattle.replay.specs.declared.Ridden.{Ridden as Replayed}
 use Rattle.replay.specs.Acts.{actCalled, nothingRidden, playActs, Acts, isQuiet, eventlessAct}
 use Rattle.replay.proofs.Laws.{read-acts, refused-acts, idle-acts, ride-acts, played}
 use Rattle.replay.proofs.Sheets.{At, at-next, at-refused}

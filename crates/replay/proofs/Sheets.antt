@@ -44,8 +44,8 @@ use Rattle.replay.specs.declared.Ridden.{Ridden}
 use Rattle.replay.specs.Acts.{actCalled, callsOf, nothingRidden, riddenTo, goOn, unlessRefused, atNoAct, atAct, playActs, Ready, Acts}
 use Rattle.replay.specs.Replay.{profileIn, playSheet, Fresh, riddenOf, replayRecord, replayOutput}
 
-pub not-refused : (told : ActAnswer) (rest : Ridden) → told .answer ≡ Accepted → unlessRefused told rest ≡ rest
-not-refused told rest e = ap (λ (a : Answer). unlessRefused (record { answer = a; act = told .act }) rest) e
+pub not-refused : (outcome : ActAnswer) (rest : Ridden) → outcome .answer ≡ Accepted → unlessRefused outcome rest ≡ rest
+not-refused outcome rest e = ap (λ (a : Answer). unlessRefused (record { answer = a; act = outcome .act }) rest) e
 
 module _ (w : Workout) (p : TrainingProfile) (s : List ℕ) (n i : ℕ) (q : Player) where
   abbrev o : Called
@@ -137,15 +137,15 @@ new-fresh w = at (workoutAnswer w) refl
 
 -- What was not refused passed its question.
 
-pub passed : (told : ActAnswer) (rest : Ridden) → unlessRefused told rest .told .answer ≡ Accepted → (told .answer ≡ Accepted) × (unlessRefused told rest ≡ rest)
-passed told rest = at (told .answer) refl
+pub passed : (outcome : ActAnswer) (rest : Ridden) → unlessRefused outcome rest .outcome .answer ≡ Accepted → (outcome .answer ≡ Accepted) × (unlessRefused outcome rest ≡ rest)
+passed outcome rest = at (outcome .answer) refl
   where
-    at : (a : Answer) → told .answer ≡ a → goOn a told rest .told .answer ≡ Accepted → (told .answer ≡ Accepted) × (goOn a told rest ≡ rest)
+    at : (a : Answer) → outcome .answer ≡ a → goOn a outcome rest .outcome .answer ≡ Accepted → (outcome .answer ≡ Accepted) × (goOn a outcome rest ≡ rest)
     at Accepted e h = (e, refl)
     at (Refused r) e h = absurd (let z : Refused r ≡ Accepted = sym e ∙ h in let y : _≡_ {A = ℕ} 0 1 = cc in omega arith)
 
 -- Where no act is refused, the acts are the calls that they stand for.
-pub acts-ridden : (w : Workout) (p : TrainingProfile) (acts : List Act) (i : ℕ) (q : Player) → playActs w p acts i q .told .answer ≡ Accepted
+pub acts-ridden : (w : Workout) (p : TrainingProfile) (acts : List Act) (i : ℕ) (q : Player) → playActs w p acts i q .outcome .answer ≡ Accepted
     → playActs w p acts i q ≡ riddenTo w (run p (callsOf acts) q .player)
 unfolding playActs callsOf run actCalled
 acts-ridden w p [] i q e = refl
@@ -154,7 +154,7 @@ acts-ridden w p (act ∷ acts) i q e =
     let rest = playActs w p acts (i + 1) (o .player) in
     let h = passed (atAct i (o .answer)) rest e in
     h .1
-    ∙ acts-ridden w p acts (i + 1) (o .player) (sym (ap (λ (r : Ridden). r .told .answer) (h .1)) ∙ e)
+    ∙ acts-ridden w p acts (i + 1) (o .player) (sym (ap (λ (r : Ridden). r .outcome .answer) (h .1)) ∙ e)
     ∙ ap (riddenTo w) (one act)
   where
     one : (act : Act) → run p (callsOf acts) (actCalled p act q .player) .player ≡ run p (callsOf (act ∷ acts)) q .player
@@ -236,21 +236,21 @@ module _ (file s : List ℕ) (room : ℕ) where
     pub profile-passes : profileAnswer (profileIn s) ≡ Accepted
     pub ridden : riddenOf file s room ≡ riddenTo (made .player .workout) (run (profileIn s) (callsOf acts) (made .player) .player)
 
-  pub accepts : riddenOf file s room .told .answer ≡ Accepted → Accepts
+  pub accepts : riddenOf file s room .outcome .answer ≡ Accepted → Accepts
   unfolding riddenOf playSheet
   accepts e =
       let a = passed (atNoAct (d .answer)) second e in
-      let e₁ : second .told .answer ≡ Accepted = sym (ap (λ (r : Ridden). r .told .answer) (a .1)) ∙ e in
+      let e₁ : second .outcome .answer ≡ Accepted = sym (ap (λ (r : Ridden). r .outcome .answer) (a .1)) ∙ e in
       let b = passed (atNoAct (made .answer)) third e₁ in
-      let e₂ : third .told .answer ≡ Accepted = sym (ap (λ (r : Ridden). r .told .answer) (b .1)) ∙ e₁ in
+      let e₂ : third .outcome .answer ≡ Accepted = sym (ap (λ (r : Ridden). r .outcome .answer) (b .1)) ∙ e₁ in
       let k = passed (checkOf s) last e₂ in
-      let e₃ : last .told .answer ≡ Accepted = sym (ap (λ (r : Ridden). r .told .answer) (k .1)) ∙ e₂ in
+      let e₃ : last .outcome .answer ≡ Accepted = sym (ap (λ (r : Ridden). r .outcome .answer) (k .1)) ∙ e₂ in
       let o = passed (atNoAct output) (playSheet (made .player) s) e₃ in
-      let e₄ : playSheet (made .player) s .told .answer ≡ Accepted = sym (ap (λ (r : Ridden). r .told .answer) (o .1)) ∙ e₃ in
+      let e₄ : playSheet (made .player) s .outcome .answer ≡ Accepted = sym (ap (λ (r : Ridden). r .outcome .answer) (o .1)) ∙ e₃ in
       let w = made .player .workout in
       let rest = playActs w (profileIn s) acts 1 (made .player) in
       let q = passed (atAct 0 (profileAnswer (profileIn s))) rest e₄ in
-      let e₅ : rest .told .answer ≡ Accepted = sym (ap (λ (r : Ridden). r .told .answer) (q .1)) ∙ e₄ in
+      let e₅ : rest .outcome .answer ≡ Accepted = sym (ap (λ (r : Ridden). r .outcome .answer) (q .1)) ∙ e₄ in
       record {
         file-passes = a .0;
         new-passes = b .0;
@@ -260,7 +260,7 @@ module _ (file s : List ℕ) (room : ℕ) where
       }
 
   -- a record that is to be written passes the writer's questions
-  pub writes : (journal id start : ℕ) (dated : Bool) → riddenOf file s room .told .answer ≡ Accepted
+  pub writes : (journal id start : ℕ) (dated : Bool) → riddenOf file s room .outcome .answer ≡ Accepted
       → writeAnswer (replayRecord (riddenOf file s room) journal id start dated) room ≡ Accepted
   unfolding writeAnswer
   writes journal id start dated e =
@@ -274,11 +274,11 @@ module _ (file s : List ℕ) (journal id start : ℕ) (dated : Bool) (out : List
   abbrev r : Ridden
   r = riddenOf file s (length out)
 
-  pub output-stays : (refusal : Refusal) → r .told .answer ≡ Refused refusal → out ≡ replayOutput file s journal id start dated out
+  pub output-stays : (refusal : Refusal) → r .outcome .answer ≡ Refused refusal → out ≡ replayOutput file s journal id start dated out
   unfolding replayOutput
   output-stays refusal e = sym (ap (λ (a : Answer). outputBy a (replayRecord r journal id start dated) out) e)
 
-  pub output-written : r .told .answer ≡ Accepted → outputOf (replayRecord r journal id start dated) out ≡ replayOutput file s journal id start dated out
+  pub output-written : r .outcome .answer ≡ Accepted → outputOf (replayRecord r journal id start dated) out ≡ replayOutput file s journal id start dated out
   unfolding replayOutput outputOf
   output-written e =
       ap (λ (a : Answer). outputBy a (replayRecord r journal id start dated) out) (writes file s (length out) journal id start dated e ∙ sym e)

@@ -46,19 +46,19 @@ actCalled p Extend player = called p extend player
 
 -- Refused, nothing is ridden.
 abbrev pub nothingRidden : ActAnswer → Ridden
-nothingRidden told = record { told = told; name = emptyName; test = tests.None; summary = noSummary 0 }
+nothingRidden outcome = record { outcome = outcome; name = emptyName; test = tests.None; summary = noSummary 0 }
 
 -- "Its record is .. of .. the workout's name, test" and how it went.
 abbrev pub riddenTo : Workout → Player → Ridden
-riddenTo w player = record { told = acceptedAll; name = w .name; test = w .test; summary = player .core .summary }
+riddenTo w player = record { outcome = acceptedAll; name = w .name; test = w .test; summary = player .core .summary }
 
 abbrev pub goOn : Answer → ActAnswer → Ridden → Ridden
-goOn Accepted told rest = rest
-goOn (Refused refusal) told rest = nothingRidden told
+goOn Accepted outcome rest = rest
+goOn (Refused refusal) outcome rest = nothingRidden outcome
 
 -- One question or act after the other: the first that is refused ends all.
 abbrev pub unlessRefused : ActAnswer → Ridden → Ridden
-unlessRefused told rest = goOn (told .answer) told rest
+unlessRefused outcome rest = goOn (outcome .answer) outcome rest
 
 abbrev pub atNoAct : Answer → ActAnswer
 atNoAct answer = record { answer = answer; act = None }

@@ -52,9 +52,9 @@ replayRecord r journal id start dated = recordOf (r .name) (r .test) (r .summary
 
 -- "gets the record, or the refusal's number and, where it names one, its act"
 unfoldable pub replayAnswer : List ℕ → List ℕ → ℕ → ActAnswer
-replayAnswer file s room = riddenOf file s room .told
+replayAnswer file s room = riddenOf file s room .outcome
 
 -- "Output bytes past those written stay", and refused, all stay.
 unfoldable pub replayOutput : List ℕ → List ℕ → ℕ → ℕ → ℕ → Bool → List ℕ → List ℕ
 replayOutput file s journal id start dated out =
-    outputBy (riddenOf file s (length out) .told .answer) (replayRecord (riddenOf file s (length out)) journal id start dated) out
+    outputBy (riddenOf file s (length out) .outcome .answer) (replayRecord (riddenOf file s (length out)) journal id start dated) out

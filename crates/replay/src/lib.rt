@@ -52,7 +52,7 @@ use zones::TrainingProfile;
 
 // What a sheet came to: the answer, and what the record takes from workout and player; refused, nothing.
 pub struct Ridden {
-    pub told: ActAnswer,
+    pub outcome: ActAnswer,
     pub name: Name,
     pub test: Test,
     pub summary: Summary,
@@ -124,6 +124,7 @@ fn quiet_act(
     reading_fits(power);
     match act {
         Act::Profile(_) => eventless(core, Answer::Accepted),
+        // The `requires` leaves these two out.
         Act::Read(_) => eventless(core, Answer::Accepted),
         Act::Ride(_, _) => eventless(core, Answer::Accepted),
         Act::Skip => skip_act(workout, core, kinds, values),
@@ -131,11 +132,11 @@ fn quiet_act(
     }
 }
 
-fn nothing_ridden(told: ActAnswer) -> Ridden
-    ensures { λ r. ⌜ r ≡ nothingRidden told ⌝ }
+fn nothing_ridden(outcome: ActAnswer) -> Ridden
+    ensures { λ r. ⌜ r ≡ nothingRidden outcome ⌝ }
 {
     Ridden {
-        told,
+        outcome,
         name: Name::empty(),
         test: Test::None,
         summary: no_summary(0),
@@ -183,16 +184,14 @@ fn play(fresh: Player, profile: TrainingProfile, sheet: &[u8], n: usize) -> Ridd
             };
             let mut j: usize = 0;
             while (j < 97) & !is_stopped(ride) {
-                let turned = turn(ride, test, profile, &mut minute, &mut kinds, &mut values);
-                let ridden = turned.core;
+                ride = turn(ride, test, profile, &mut minute, &mut kinds, &mut values);
+                let ridden = ride.core;
                 j += 1;
                 if is_over(ridden, profile) {
-                    // A copy, so that the ride itself never has to lie in memory.
-                    let ended = turned;
+                    // A copy, so that the ride itself never has to lie in memory. (A `continue` here took a quarter more time.)
+                    let ended = ride;
                     ride = end_step(workout, ended, &mut kinds, &mut values);
-                    continue;
                 }
-                ride = turned;
             }
             core = ride.core;
             i += 1;
@@ -209,6 +208,7 @@ fn play(fresh: Player, profile: TrainingProfile, sheet: &[u8], n: usize) -> Ridd
             continue;
         }
         let act = act_at(sheet, n, i);
+        // A copy here too.
         let before = core;
         let acted = quiet_act(
             workout,
@@ -229,7 +229,7 @@ fn play(fresh: Player, profile: TrainingProfile, sheet: &[u8], n: usize) -> Ridd
     let name = workout.name;
     let summary = core.summary;
     Ridden {
-        told: accepted_all(),
+        outcome: accepted_all(),
         name,
         test,
         summary,
@@ -289,10 +289,10 @@ pub fn replay(
     ensures { λ _. ⌜ now (out .exit) ≡ replayOutput (now (file .entry)) (now (sheet .entry)) journal id start dated (now (out .entry)) ⌝ }
 {
     let ride = ride_sheet(file, sheet, out.len());
-    let told = ride.told;
-    let answer = told.answer;
+    let outcome = ride.outcome;
+    let answer = outcome.answer;
     if let Answer::Refused(_) = answer {
-        return told;
+        return outcome;
     }
     let name = ride.name;
     let test = ride.test;
@@ -306,5 +306,5 @@ pub fn replay(
         summary,
     };
     encode(stored, out);
-    told
+    outcome
 }

@@ -57,8 +57,8 @@ add-at-2 c = omega (arith, c .before .before .before .before .loop-test .taken, 
 get-u32-requires : tie.Need-get-u32-requires Inv-loop2 μ-loop2 Inv-loop μ-loop
 get-u32-requires c κs = omega (arith, c .before .before .before .before .before .loop-test .taken, c .before .before .before .before .before .before .before .before .before .before .before .pre .3, c .before .before .before .before .before .before .before .before .before .before .before .pre .4)
 
-cast-t42 : tie.Need-cast-t42 Inv-loop2 μ-loop2 Inv-loop μ-loop
-cast-t42 c = search needs
+cast-t41 : tie.Need-cast-t41 Inv-loop2 μ-loop2 Inv-loop μ-loop
+cast-t41 c = search needs
 
 add-get-u32 : tie.Need-add-get-u32 Inv-loop2 μ-loop2 Inv-loop μ-loop
 add-get-u32 c = omega (arith, c .before .before .before .before .before .before .loop-test .taken, c .before .before .before .before .before .before .before .before .before .before .before .before .pre .3, c .before .before .before .before .before .before .before .before .before .before .before .before .pre .4)
@@ -66,8 +66,8 @@ add-get-u32 c = omega (arith, c .before .before .before .before .before .before 
 get-u32-requires-2 : tie.Need-get-u32-requires-2 Inv-loop2 μ-loop2 Inv-loop μ-loop
 get-u32-requires-2 c κs = omega (arith, c .before .before .before .before .before .before .loop-test .taken, c .before .before .before .before .before .before .before .before .before .before .before .before .pre .3, c .before .before .before .before .before .before .before .before .before .before .before .before .pre .4)
 
-cast-t42-2 : tie.Need-cast-t42-2 Inv-loop2 μ-loop2 Inv-loop μ-loop
-cast-t42-2 c = search needs
+cast-t41-2 : tie.Need-cast-t41-2 Inv-loop2 μ-loop2 Inv-loop μ-loop
+cast-t41-2 c = search needs
 
 update-answer-requires : tie.Need-update-answer-requires Inv-loop2 μ-loop2 Inv-loop μ-loop
 update-answer-requires c κs = let a = c .before .before .before .before .before .before .before .before .before .before .before .before .before .args in let l = c .before .before .before .before .before .before .before .before .loop in
@@ -76,8 +76,8 @@ update-answer-requires c κs = let a = c .before .before .before .before .before
 enum-known-asked : tie.Need-enum-known-asked Inv-loop2 μ-loop2 Inv-loop μ-loop
 enum-known-asked c = search needs
 
-cast-t45 : tie.Need-cast-t45 Inv-loop2 μ-loop2 Inv-loop μ-loop
-cast-t45 c = omega (arith, c .before .before .before .before .before .before .before .before .before .before .before .loop-test .taken, c .before .before .before .before .before .before .before .before .before .before .before .before .before .before .before .before .before .pre .3, c .before .before .before .before .before .before .before .before .before .before .before .before .before .before .before .before .before .pre .4)
+cast-t44 : tie.Need-cast-t44 Inv-loop2 μ-loop2 Inv-loop μ-loop
+cast-t44 c = omega (arith, c .before .before .before .before .before .before .before .before .before .before .before .loop-test .taken, c .before .before .before .before .before .before .before .before .before .before .before .before .before .before .before .before .before .pre .3, c .before .before .before .before .before .before .before .before .before .before .before .before .before .before .before .before .before .pre .4)
 
 refused-at-requires : tie.Need-refused-at-requires Inv-loop2 μ-loop2 Inv-loop μ-loop
 refused-at-requires c κs = search needs
@@ -176,8 +176,8 @@ sample-at-requires c κs = omega (arith, c .before .before .before .before .befo
 cadence-in-requires : tie.Need-cadence-in-requires Inv-loop2 μ-loop2 Inv-loop μ-loop
 cadence-in-requires c κs = search needs
 
-cast-t67 : tie.Need-cast-t67 Inv-loop2 μ-loop2 Inv-loop μ-loop
-cast-t67 c = omega (arith, c .before .before .before .before .before .before .before .before .before .loop-test .taken, c .before .before .before .before .before .before .before .before .before .before .before .before .before .before .before .pre .3, c .before .before .before .before .before .before .before .before .before .before .before .before .before .before .before .pre .4)
+cast-t66 : tie.Need-cast-t66 Inv-loop2 μ-loop2 Inv-loop μ-loop
+cast-t66 c = omega (arith, c .before .before .before .before .before .before .before .before .before .loop-test .taken, c .before .before .before .before .before .before .before .before .before .before .before .before .before .before .before .pre .3, c .before .before .before .before .before .before .before .before .before .before .before .before .before .before .before .pre .4)
 
 refused-at-requires-2 : tie.Need-refused-at-requires-2 Inv-loop2 μ-loop2 Inv-loop μ-loop
 refused-at-requires-2 c κs = search needs
@@ -217,8 +217,8 @@ quiet-act-requires c κs = let a = c .before .before .before .before .before .be
 enum-known-answer : tie.Need-enum-known-answer Inv-loop2 μ-loop2 Inv-loop μ-loop
 enum-known-answer c = search needs
 
-cast-t75 : tie.Need-cast-t75 Inv-loop2 μ-loop2 Inv-loop μ-loop
-cast-t75 c = omega (arith, c .before .before .before .before .before .before .before .before .before .before .before .before .before .before .before .before .loop-test .taken, c .before .before .before .before .before .before .before .before .before .before .before .before .before .before .before .before .before .before .before .before .before .before .pre .3, c .before .before .before .before .before .before .before .before .before .before .before .before .before .before .before .before .before .before .before .before .before .before .pre .4)
+cast-t74 : tie.Need-cast-t74 Inv-loop2 μ-loop2 Inv-loop μ-loop
+cast-t74 c = omega (arith, c .before .before .before .before .before .before .before .before .before .before .before .before .before .before .before .before .loop-test .taken, c .before .before .before .before .before .before .before .before .before .before .before .before .before .before .before .before .before .before .before .before .before .before .pre .3, c .before .before .before .before .before .before .before .before .before .before .before .before .before .before .before .before .before .before .before .before .before .before .pre .4)
 
 refused-at-requires-3 : tie.Need-refused-at-requires-3 Inv-loop2 μ-loop2 Inv-loop μ-loop
 refused-at-requires-3 c κs = search needs
@@ -251,7 +251,7 @@ accepted-all-requires c κs = search needs
 
 returns-4 : tie.Need-returns-4 Inv-loop2 μ-loop2 Inv-loop μ-loop
 returns-4 c = let a = c .before .before .before .before .before .before .before .before .before .args in let l = c .before .before .before .before .loop in
-    ap (λ (t : ActAnswer). record { told = t; name = a .fresh .workout .name; test = a .fresh .workout .test; summary = l .core .summary }) (c .accepted-all .ensures) ∙ at-end (a .fresh .workout) (a .profile) (now (a .sheet)) (a .n) (a .fresh .core) (a .fresh .minute) (l .core) (l .minute) (l .i) (l .inv .0) (c .before .before .before .loop-test .left)
+    ap (λ (t : ActAnswer). record { outcome = t; name = a .fresh .workout .name; test = a .fresh .workout .test; summary = l .core .summary }) (c .accepted-all .ensures) ∙ at-end (a .fresh .workout) (a .profile) (now (a .sheet)) (a .n) (a .fresh .core) (a .fresh .minute) (l .core) (l .minute) (l .i) (l .inv .0) (c .before .before .before .loop-test .left)
 
 pub play-spec : {M : Type 1} → statement M
 play-spec =
@@ -269,13 +269,13 @@ play-spec =
     mul-at
     add-at-2
     get-u32-requires
-    cast-t42
+    cast-t41
     add-get-u32
     get-u32-requires-2
-    cast-t42-2
+    cast-t41-2
     update-answer-requires
     enum-known-asked
-    cast-t45
+    cast-t44
     refused-at-requires
     nothing-ridden-requires
     returns
@@ -303,7 +303,7 @@ play-spec =
     loop-again-2
     sample-at-requires
     cadence-in-requires
-    cast-t67
+    cast-t66
     refused-at-requires-2
     nothing-ridden-requires-2
     returns-2
@@ -316,7 +316,7 @@ play-spec =
     slice-aggregate-quiet-act-2
     quiet-act-requires
     enum-known-answer
-    cast-t75
+    cast-t74
     refused-at-requires-3
     nothing-ridden-requires-3
     returns-3

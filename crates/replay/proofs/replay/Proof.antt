@@ -21,7 +21,7 @@ returns : tie.Need-returns
 unfolding replayAnswer
 returns c = let a = c .before .before .before .before .before .before .before .args in
     let r = c .before .before .before .ride-sheet .ensures in
-    (ap (λ (x : Ridden). x .told) r, output-stays (now (a .file)) (now (a .sheet)) (a .journal) (a .id) (a .start) (a .dated) (now (a .out)) _ (sym (ap (λ (x : Ridden). x .told .answer) r) ∙ c .enum-told .given .1))
+    (ap (λ (x : Ridden). x .outcome) r, output-stays (now (a .file)) (now (a .sheet)) (a .journal) (a .id) (a .start) (a .dated) (now (a .out)) _ (sym (ap (λ (x : Ridden). x .outcome .answer) r) ∙ c .enum-told .given .1))
 
 enum-told-2 : tie.Need-enum-told-2
 enum-told-2 c = search needs
@@ -42,7 +42,7 @@ returns-2 c = let a = c .before .before .before .before .before .before .before 
     let x = c .before .before .before .before .before .before .before .before .before .before .ride-sheet .result in
     let stored = ap (λ (t : StartOption). record { journal = a .journal; «ride_id» = a .id; «started_utc_ms» = t; name = x .name; test = x .test; summary = x .summary }) (c .before .before .before .before .start-of .ensures)
     ∙ ap (λ (x : Ridden). replayRecord x (a .journal) (a .id) (a .start) (a .dated)) r in
-    (ap (λ (x : Ridden). x .told) r, c .before .before .encode .ensures .1 ∙ ap (λ (k : Record). outputOf k (now (a .out))) stored ∙ output-written (now (a .file)) (now (a .sheet)) (a .journal) (a .id) (a .start) (a .dated) (now (a .out)) (sym (ap (λ (x : Ridden). x .told .answer) r) ∙ c .before .before .before .before .before .before .before .enum-told2 .given .1))
+    (ap (λ (x : Ridden). x .outcome) r, c .before .before .encode .ensures .1 ∙ ap (λ (k : Record). outputOf k (now (a .out))) stored ∙ output-written (now (a .file)) (now (a .sheet)) (a .journal) (a .id) (a .start) (a .dated) (now (a .out)) (sym (ap (λ (x : Ridden). x .outcome .answer) r) ∙ c .before .before .before .before .before .before .before .enum-told2 .given .1))
 
 pub replay-spec : {M : Type 1} → statement M
 replay-spec =
