@@ -1,11 +1,11 @@
-/* Plays the fixed list of whole replays, tests/c/replays (tests/oracle/list.rs has its layout), through the call of
+/* Plays the fixed list of whole replays, crates/vectors/data/replays (tests/oracle/list.rs has its layout), through the call of
  * include/console.h, and holds each answer, act and output byte to the list's. Fails at the first that differs. */
 #include <stdio.h>
 #include <string.h>
 
 #include "console.h"
 
-enum { MOST = 1 << 20, LENT = 80, FILLED = 0xA5 };
+enum { MOST = 1 << 20, REPLAY = 14, HEAD = 7 * 4, OUTPUT = 80, WORDS = 2 + OUTPUT / 4, FILLED = 0xA5 };
 
 static uint8_t list[MOST];
 static size_t size, at;
@@ -31,19 +31,20 @@ int main(int words, char **word) {
   if (!file || !(size = fread(list, 1, MOST, file)) || size == MOST) return puts("the list can't be read"), 1;
   fclose(file);
   for (; at < size; replays++) {
-    uint8_t out[LENT], want[LENT];
-    uint32_t workout_len = number(), sheet_len = number();
-    const uint8_t *workout = bytes(workout_len), *sheet = bytes(sheet_len);
-    uint32_t journal = number(), id = number();
+    uint8_t out[OUTPUT];
+    uint32_t question = number(), input_len = number(), workout_len = number(), journal = number(), id = number();
     uint64_t low = number(), start = low | (uint64_t)number() << 32;
-    uint32_t dated = number(), lent = number(), refusal = number(), act = number();
-    const uint8_t *record = bytes(72);
-    if (cut || lent > LENT) return puts("the list is cut short"), 1;
-    memset(out, FILLED, LENT);
-    memset(want, FILLED, LENT);
-    if (refusal == 0) memcpy(want, record, REPLAY_RECORD_LENGTH), accepted++;
+    uint32_t dated = number(), lent = number();
+    if (cut || input_len < HEAD || input_len - HEAD < workout_len) return puts("the list is cut short"), 1;
+    size_t sheet_len = input_len - HEAD - workout_len;
+    const uint8_t *workout = bytes(workout_len), *sheet = bytes(sheet_len);
+    uint32_t answer_words = number(), refusal = number(), act = number();
+    const uint8_t *want = bytes(OUTPUT);
+    if (cut || question != REPLAY || answer_words != WORDS || lent > OUTPUT) return puts("an entry isn't that of a replay"), 1;
+    memset(out, FILLED, OUTPUT);
     replayed got = replay(workout, workout_len, sheet, sheet_len, (uint8_t)journal, id, start, dated, out, lent);
-    if (got.refusal != refusal || got.act != act || memcmp(out, want, LENT)) return printf("replay %u of the list differs\n", replays), 1;
+    if (got.refusal != refusal || got.act != act || memcmp(out, want, OUTPUT)) return printf("replay %u of the list differs\n", replays), 1;
+    accepted += refusal == 0;
   }
   printf("the fixed list: %u replays, %u accepted, as the Rust has them\n", replays, accepted);
   return replays < 500 || accepted == 0;

@@ -1,16 +1,19 @@
-//! Writes the fixed lists that crate `vectors` (`answers`, `players`) and tests/c/list.c (`replays`) play to the folder given: each limit
-//! of each question, then random inputs of a fixed seed, with the Rust's answers. An entry is the question, the number of the
-//! input's bytes, the input, the number of the answer's words, and the words; the numbers and the words are 4 bytes each,
-//! little-endian. The last question is on the player: its input is the number of a workout file's bytes, the file, and a list of
-//! calls, and its answer `played::WORDS` words on the fresh player and after each call.
+//! Writes the fixed lists that crate `vectors` plays, `answers`, `players` and `replays`, to the folder given (tests/c/list.c plays
+//! `replays` too): each limit of each question, then random inputs of a fixed seed, with the Rust's answers. An entry is the
+//! question, the number of the input's bytes, the input, the number of the answer's words, and the words; the numbers and the
+//! words are 4 bytes each, little-endian. Two questions come after those of questions.rs.
 //!
-//! An entry of `replays` is the numbers of the workout's and of the sheet's bytes, the workout, the sheet; then journal, id, the
-//! start's lower and upper half, dated, how many bytes are lent (at most 80); then the refusal's number, its act, and the 70 bytes
-//! of the record (zeros where refused) with two zeros behind them. The answers are those of the model in replays.rs.
+//! On the player: the input is the number of a workout file's bytes, the file, and a list of calls, the answer `played::WORDS`
+//! words on the fresh player and after each call.
+//!
+//! On a whole replay: the input is seven words (the number of the workout's bytes, journal, id, the start's lower and upper half,
+//! dated, how many bytes are lent), the workout, and the sheet to the end. The answer is the refusal's number, its act, and the
+//! `OUTPUT` bytes, four to a word, that hold the output: they are all `FILL` before, and the first of them are lent. The answers are
+//! those of the model in replays.rs.
 use inputs::calls::{Play, limit_plays, random_play};
 use inputs::{Random, limit_inputs, random_input};
 use played::Met;
-use questions::{FILE, NAMES, answer, bytes_of};
+use questions::{FILE, FILL, NAMES, answer, bytes_of};
 use replays::{Replay, limit_replays, random_replay};
 
 const SEED: u64 = 20;
@@ -20,6 +23,9 @@ const COUNT: usize = 120;
 const PLAYER: usize = NAMES.len();
 const LISTS: usize = 100;
 const CALLS: usize = 11;
+/// The question on a whole replay, and the bytes that hold its output.
+const REPLAY: usize = PLAYER + 1;
+const OUTPUT: usize = 80;
 /// How many replays; the most bytes of workout and sheet together, but for those at limits whose sheet has a length of `LONG` (1,442,
 /// 2,002 and 4,096 acts); and the most bytes of all.
 const REPLAYS: usize = 540;
@@ -58,15 +64,18 @@ fn players() -> Vec<u8> {
 
 fn replay_entry(list: &mut Vec<u8>, replay: &Replay, met: &mut replays::Met) {
     let Replay { workout, sheet, journal, id, start, dated, room } = replay;
-    let answer = replays::answer(replay, met);
-    list.extend(bytes_of(&[workout.len() as u32, sheet.len() as u32]));
-    list.extend(workout);
-    list.extend(sheet);
+    assert!(*room <= OUTPUT);
     let halves = [*start as u32, (start >> 32) as u32];
-    list.extend(bytes_of(&[(*journal).into(), *id, halves[0], halves[1], *dated, *room as u32]));
-    list.extend(bytes_of(&[answer.refusal, answer.act]));
-    list.extend(answer.record);
-    list.extend([0; 2]);
+    let head = [workout.len() as u32, (*journal).into(), *id, halves[0], halves[1], *dated, *room as u32];
+    let input = [&bytes_of(&head)[..], workout, sheet].concat();
+    let answer = replays::answer(replay, met);
+    let mut output = [FILL; OUTPUT];
+    if answer.refusal == 0 {
+        output[..answer.record.len()].copy_from_slice(&answer.record);
+    }
+    let words = output.chunks_exact(4).map(|word| u32::from_le_bytes(word.try_into().unwrap()));
+    let judged: Vec<u32> = [answer.refusal, answer.act].into_iter().chain(words).collect();
+    entry(list, REPLAY, &input, &judged);
 }
 
 /// Whole replays: the short ones at limits, a few long ones, then short random ones.

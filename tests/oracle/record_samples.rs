@@ -16,8 +16,8 @@ use mathlib.Core.List.{List, [], _∷_, _++_}
 use Prim.Native.Nat.{ℕ}
 use Rattle.cursor.specs.Names.{nameOf}
 use Rattle.model.specs.declared.Test.the-variants as tests
-use Rattle.readings.specs.declared.ReadingOption.{ReadingOption}
-use Rattle.readings.specs.declared.ReadingOption.the-variants as ftp
+use Rattle.power.specs.declared.ReadingOption.{ReadingOption}
+use Rattle.power.specs.declared.ReadingOption.the-variants as ftp
 use Rattle.state.specs.declared.Summary.{Summary}
 use Rattle.history.specs.Record.{recordOf, recordBytes}
 use Rattle.history.specs.Decode.{noRecord, readAs, decodeOf}

@@ -25,14 +25,15 @@ use Rattle.model.specs.Workout.{noStep, noBlock}
 use Rattle.order.specs.Order.{orderOf, playedLen}
 use Rattle.validation.specs.Sound.{workoutAnswer}
 use Rattle.decode.specs.Decode.{decodeOf}
-use Rattle.readings.specs.declared.ReadingOption.{ReadingOption}
-use Rattle.readings.specs.declared.ReadingOption.the-variants.{None, Some}
+use Rattle.power.specs.declared.ReadingOption.{ReadingOption}
+use Rattle.power.specs.declared.ReadingOption.the-variants.{None, Some}
 use Rattle.readings.specs.declared.Sample.{Sample}
-use Rattle.readings.specs.Readings.{added, averageOf, noReadings}
+use Rattle.power.specs.Power.{added, averageOf}
+use Rattle.readings.specs.Readings.{noReadings}
 use Rattle.events.specs.Events.{Event, countdown, started}
 use Rattle.state.specs.declared.Player.{Player}
 use Rattle.start.specs.Start.{newOf}
-use Rattle.updates.specs.Updates.{Called}
+use Rattle.outcomes.specs.Outcomes.{Called}
 use Rattle.player.specs.Calls.{readOf, rideOf}
 use Rattle.reports.specs.Reports.{untilOf}
 

@@ -10,8 +10,8 @@ use lib.ListN.{length, getD, take, length-take, length-replicate}
 use borrow.Author.Tests.{eqb-true, eqb-false}
 use Rattle.compare_player.specs.Calls.{turnOf}
 use Rattle.compare_player.specs.declared.Seen.{Seen}
-use Rattle.updates.specs.Updates.{Called, Answers}
-use Rattle.updates.specs.declared.Update.{Update}
+use Rattle.outcomes.specs.Outcomes.{Called, Answers}
+use Rattle.outcomes.specs.declared.Update.{Update}
 use Rattle.compare_cut.specs.Cuts.{joinedFrom, joinedOne, calledCut, places, turnedCut, cutAfter, nextCut, cutWord, wordAfter}
 
 module _ (ks vs : List ℕ) (n : ℕ) where

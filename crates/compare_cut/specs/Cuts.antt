@@ -16,7 +16,7 @@ use Rattle.compare_reports.specs.Words.{seenWord}
 use Rattle.events.specs.Events.{kindsOf, valuesOf}
 use Rattle.player.specs.Calls.{rideOf, skipOf}
 use Rattle.state.specs.declared.Player.{Player}
-use Rattle.updates.specs.Updates.{Called}
+use Rattle.outcomes.specs.Outcomes.{Called}
 
 -- A check word of what stands in n places of the two arrays from place i on, countdowns (kind 0) passed over.
 abbrev pub joinedOne : ℕ → ℕ → ℕ → ℕ

@@ -9,7 +9,7 @@ use Rattle.model.specs.declared.Intensity.the-variants.{Warmup}
 use Rattle.model.specs.declared.Length.the-variants.{Time, Distance, Open}
 use Rattle.model.specs.declared.Target.the-variants.{HeartZone}
 use Rattle.model.specs.declared.Workout.{Workout}
-use Rattle.readings.specs.declared.ReadingOption.the-variants.{Some}
+use Rattle.power.specs.declared.ReadingOption.the-variants.{Some}
 use Rattle.readings.specs.declared.Readings.{Readings}
 use Rattle.state.specs.declared.Core.{Core}
 use Rattle.state.specs.declared.Lap.{Lap}

@@ -7,7 +7,7 @@ use model::Intensity;
 use model::Length;
 use model::Target;
 use model::Workout;
-use readings::ReadingOption;
+use power::ReadingOption;
 use readings::Readings;
 use state::Core;
 use state::Lap;

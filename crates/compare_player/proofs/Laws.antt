@@ -10,8 +10,8 @@ use lib.Dec.{eqb}
 use lib.ListN.{getD}
 use borrow.Author.Tests.{eqb-true, eqb-false}
 use Rattle.compare_reports.specs.Words.{seenWord}
-use Rattle.updates.specs.Updates.{Called, Answers}
-use Rattle.updates.specs.declared.Update.{Update}
+use Rattle.outcomes.specs.Outcomes.{Called, Answers}
+use Rattle.outcomes.specs.declared.Update.{Update}
 use Rattle.compare_player.specs.Calls.{checkFrom, mixed, places, turnOf, calledTurn, turned, seenAfter, nextSeen, wordAfter}
 use Rattle.compare_player.specs.declared.Seen.{Seen}
 

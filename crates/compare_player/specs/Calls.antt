@@ -14,16 +14,16 @@ use Rattle.decode.specs.Decode.{decodeOf}
 use Rattle.events.specs.Events.{Event, kindsOf, valuesOf}
 use Rattle.le.specs.Le.{part, written}
 use Rattle.player.specs.Calls.{readOf, rideOf, addOf, skipOf, extendOf}
-use Rattle.readings.specs.declared.ReadingOption.the-variants.{None, Some}
-use Rattle.readings.specs.declared.ReadingOption.{ReadingOption}
+use Rattle.power.specs.declared.ReadingOption.the-variants.{None, Some}
+use Rattle.power.specs.declared.ReadingOption.{ReadingOption}
 use Rattle.readings.specs.declared.Sample.{Sample}
 use Rattle.refusal.specs.Number.{answerNumber}
 use Rattle.start.specs.Start.{newOf}
 use Rattle.start.specs.declared.NewPlayer.{NewPlayer}
 use Rattle.state.specs.declared.Player.{Player}
-use Rattle.updates.specs.Updates.{Called}
-use Rattle.updates.specs.declared.Extended.{Extended}
-use Rattle.updates.specs.declared.Update.{Update}
+use Rattle.outcomes.specs.Outcomes.{Called}
+use Rattle.outcomes.specs.declared.Extended.{Extended}
+use Rattle.outcomes.specs.declared.Update.{Update}
 use Rattle.compare_player.specs.declared.Call.{Call}
 use Rattle.compare_player.specs.declared.Seen.{Seen}
 use Rattle.compare_player.specs.declared.Turn.{Turn}

@@ -15,13 +15,13 @@ use compare_reports::Reported;
 use compare_reports::report;
 use compare_reports::seen_word;
 use decode::decode;
-use readings::ReadingOption;
+use outcomes::Update;
+use power::ReadingOption;
 use readings::Sample;
 use start::new;
 use state::Mm;
 use state::Ms;
 use state::Player;
-use updates::Update;
 use zones::TrainingProfile;
 
 // A call of the list, in words.

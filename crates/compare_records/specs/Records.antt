@@ -6,8 +6,8 @@ use lib.Dec.{ltb}
 use lib.ListN.{getD}
 use Rattle.refusal.specs.Number.{answerNumber}
 use Rattle.encode.specs.Encode.{testKind}
-use Rattle.readings.specs.declared.ReadingOption.{ReadingOption}
-use Rattle.readings.specs.declared.ReadingOption.the-variants as reading
+use Rattle.power.specs.declared.ReadingOption.{ReadingOption}
+use Rattle.power.specs.declared.ReadingOption.the-variants as reading
 use Rattle.state.specs.declared.Summary.{Summary}
 use Rattle.history.specs.declared.StartOption.{StartOption}
 use Rattle.history.specs.declared.StartOption.the-variants as start

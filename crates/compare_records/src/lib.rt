@@ -13,7 +13,7 @@ use encode::test_kind;
 use history::RecordRead;
 use history::StartOption;
 use history::decode;
-use readings::ReadingOption;
+use power::ReadingOption;
 use state::Summary;
 
 // The lower 32 bits at place 0, the upper ones behind them.

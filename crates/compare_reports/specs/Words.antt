@@ -8,8 +8,8 @@ use Rattle.compare_files.specs.Files.{stepWord}
 use Rattle.readings.specs.declared.Compliance.the-variants.{Under, In, Over}
 use Rattle.readings.specs.declared.ComplianceOption.{ComplianceOption}
 use Rattle.readings.specs.declared.ComplianceOption.the-variants as how
-use Rattle.readings.specs.declared.ReadingOption.{ReadingOption}
-use Rattle.readings.specs.declared.ReadingOption.the-variants as readings
+use Rattle.power.specs.declared.ReadingOption.{ReadingOption}
+use Rattle.power.specs.declared.ReadingOption.the-variants as readings
 use Rattle.refusal.specs.Number.{answerNumber}
 use Rattle.reports.specs.Reports.{summaryOf, remainingSecs, distanceOf, untilOf, nowOf}
 use Rattle.reports.specs.declared.NowRead.{NowRead}

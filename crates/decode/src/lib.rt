@@ -85,23 +85,23 @@ fn no_head(refusal: Refusal, next: Cursor) -> HeadRead
 fn read_head(bytes: &[u8], cursor: Cursor) -> HeadRead
     ensures { λ r. ⌜ (r ≡ headAt (now (bytes .entry)) (cursor .at)) × (r .steps ≤ 12) × (r .blocks ≤ 8) ⌝ }
 {
-    let NextByte::Byte(kind, at_name) = cursor.byte(bytes) else {
+    let NextByte::Byte(kind, at_name) = reader::next_byte(bytes, cursor) else {
         return no_head(Refusal::Length, cursor);
     };
     let TestOption::Some(test) = test_of(kind) else {
         return no_head(Refusal::Field, cursor);
     };
-    let named = cursor::read_name(bytes, at_name);
+    let named = reader::next_name(bytes, at_name);
     let answer = named.answer;
     let name = named.name;
     let at_counts = named.next;
     if let Answer::Refused(refusal) = answer {
         return no_head(refusal, cursor);
     }
-    let NextByte::Byte(steps, at_blocks) = at_counts.byte(bytes) else {
+    let NextByte::Byte(steps, at_blocks) = reader::next_byte(bytes, at_counts) else {
         return no_head(Refusal::Length, cursor);
     };
-    let NextByte::Byte(blocks, next) = at_blocks.byte(bytes) else {
+    let NextByte::Byte(blocks, next) = reader::next_byte(bytes, at_blocks) else {
         return no_head(Refusal::Length, cursor);
     };
     if (steps <= 12) & (blocks <= 8) {
@@ -156,7 +156,7 @@ fn read_steps(bytes: &[u8], cursor: Cursor, n: usize) -> StepsRead
 fn read_block(bytes: &[u8], cursor: Cursor) -> BlockOption
     ensures { λ r. ⌜ r ≡ blockAt (now (bytes .entry)) (cursor .at) ⌝ }
 {
-    let Taken::Bytes(from, next) = cursor.take(bytes, 3) else {
+    let Taken::Bytes(from, next) = reader::next_bytes(bytes, cursor, 3) else {
         return BlockOption::None;
     };
     BlockOption::Some(

@@ -17,7 +17,7 @@ use Rattle.model.specs.declared.Test.{Test}
 use Rattle.decode.specs.declared.TestOption.{TestOption}
 use Rattle.decode.specs.declared.TestOption.the-variants as testOption
 use Rattle.decode.specs.Decode.{testOf}
-use Rattle.readings.specs.Readings.{orZero, readingAt}
+use Rattle.power.specs.Power.{orZero, readingAt}
 use Rattle.history.specs.declared.Record.{Record}
 use Rattle.history.specs.declared.RecordRead.{RecordRead}
 use Rattle.history.specs.Record.{startAt, datedFlag, measuredFlag, startMs, millis, mostMs, recordBytes}

@@ -15,9 +15,10 @@ use Rattle.names.specs.Names.{asBytes, nameFrom}
 use Rattle.decode.specs.Decode.{testOf}
 use Rattle.codec.proofs.File.{test-back}
 use Rattle.encode.specs.Encode.{testKind}
-use Rattle.readings.specs.declared.ReadingOption.{ReadingOption}
-use Rattle.readings.specs.declared.ReadingOption.the-variants as reading
-use Rattle.readings.specs.Readings.{orZero, isSome, flagSet, readingAt}
+use Rattle.power.specs.declared.ReadingOption.{ReadingOption}
+use Rattle.power.specs.declared.ReadingOption.the-variants as reading
+use Rattle.power.specs.Power.{orZero, isSome, readingAt}
+use Rattle.readings.specs.Readings.{flagSet}
 use Rattle.history.specs.declared.StartOption.{StartOption}
 use Rattle.history.specs.declared.StartOption.the-variants as start
 use Rattle.history.specs.declared.Record.{Record}

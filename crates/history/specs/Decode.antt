@@ -16,7 +16,8 @@ use Rattle.model.specs.declared.Test.the-variants as tests
 use Rattle.decode.specs.declared.TestOption.{TestOption}
 use Rattle.decode.specs.declared.TestOption.the-variants as testOption
 use Rattle.decode.specs.Decode.{testOf}
-use Rattle.readings.specs.Readings.{flagSet, readingAt}
+use Rattle.power.specs.Power.{readingAt}
+use Rattle.readings.specs.Readings.{flagSet}
 use Rattle.state.specs.declared.Summary.{Summary}
 use Rattle.start.specs.Start.{noSummary}
 use Rattle.history.specs.declared.StartOption.the-variants as start

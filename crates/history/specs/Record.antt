@@ -10,7 +10,7 @@ use Rattle.names.specs.declared.Name.{Name}
 use Rattle.names.specs.Names.{asBytes}
 use Rattle.model.specs.declared.Test.{Test}
 use Rattle.encode.specs.Encode.{testKind}
-use Rattle.readings.specs.Readings.{orZero, isSome}
+use Rattle.power.specs.Power.{orZero, isSome}
 use Rattle.state.specs.declared.Summary.{Summary}
 use Rattle.history.specs.declared.StartOption.{StartOption}
 use Rattle.history.specs.declared.StartOption.the-variants.{None, Some}

@@ -6,7 +6,7 @@ use Prim.Native.Nat.{ℕ, _<_, _≤_}
 use Rattle.le.specs.Le.{Bytes}
 use Rattle.names.specs.Names.{nameOk}
 use Rattle.codec.specs.Typed.{NameFits}
-use Rattle.readings.specs.Readings.{orZero}
+use Rattle.power.specs.Power.{orZero}
 use Rattle.history.specs.declared.Record.{Record}
 use Rattle.history.specs.Record.{startMs, mostMs, recordBytes}
 use Rattle.history.specs.Decode.{readAs, decodeOf}

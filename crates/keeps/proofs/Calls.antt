@@ -28,11 +28,13 @@ use Rattle.state.specs.declared.Player.{Player}
 use Rattle.state.specs.State.{extendedLap, readCore}
 use Rattle.step_end.specs.StepEnd.{nextOf}
 use Rattle.standing.specs.Standing.{onPlace, belowEnd, lapOk, cadenceIn, standingOf}
-use Rattle.standing.specs.Facts.{Stands}
+use Rattle.standing.specs.Facts.{Within, Stands}
+use Rattle.standing.proofs.Amounts.{amounts-within}
 use Rattle.standing.proofs.Known.{known, stands}
 use Rattle.rounds.specs.Rounds.{riding, rounds}
 use Rattle.rounds.proofs.Keeps.{next-stands}
-use Rattle.updates.specs.Updates.{Called, eventless, playerOf, withCore, totalled, rodeTo, rideBy, rideNow, addNow, skipTo, skipNow, withLap, longerCore, notLonger, extendedBy, longerBy, extendCore, extendBy, notExtended, ExtraFits, Supposes}
+use Rattle.outcomes.specs.Outcomes.{Called, eventless, playerOf, withCore, totalled, withLap, longerCore, notLonger, extendedBy, longerBy, extendCore, extendBy, notExtended, ExtraFits}
+use Rattle.updates.specs.Updates.{rodeTo, rideBy, rideNow, addNow, skipTo, skipNow, Supposes}
 use Rattle.player.specs.Calls.{updateAnswer, placesOk, rideOf, readBy, readAnswer, readOf, addOf, skipOf, extendNow, extendOf}
 use Rattle.updates.proofs.Laws.{totalled-stands, read-stands, read-supposes}
 use Rattle.player.proofs.Laws.{update-passed, ride-10, ride-refused, ride-taken, skip-14, skip-taken, extra-fits, add-10, add-11, add-refused, add-taken}
@@ -133,36 +135,20 @@ module _ (p : Player) (ms mm : ℕ) (f : TrainingProfile) (k v : ℕ) (fits : Pl
 -- other amounts of the step on now
 lap-stands : (w : Workout) (c : Core) (lap : Lap) → Stands 0 0 w c → lap .«step_ms» ≡ c .lap .«step_ms» → lap .«step_mm» ≡ c .lap .«step_mm»
     → lapOk (c .done) (c .on .length) lap ≡ true → Stands 0 0 w (withLap lap c)
-unfolding onPlace
 lap-stands w c lap s ms mm ok =
-    let h = s .within in
+    let h : Within 0 0 w c = s .within in
     record {
       within =
-          record {
-            valid = h .valid;
-            steps = h .steps;
-            summary-steps = h .summary-steps;
-            steps-done = h .steps-done;
-            skipped = h .skipped;
-            position = h .position;
-            done = h .done;
-            finished = h .finished;
-            step = h .step;
-            tallies = h .tallies;
+          amounts-within 0 0 (c .«total_ms» .0) (c .«total_mm» .0) lap w c h
+          (record {
             targeted = h .targeted;
             step-ms = omega (arith, ms, h .step-ms);
             step-mm = omega (arith, mm, h .step-mm);
-            energy = h .energy;
             test-ms = h .test-ms;
             low = h .low;
-            rest = h .rest;
-            place = h .place;
-            long = h .long;
-            next = h .next;
-            cadence = h .cadence;
             total-ms = h .total-ms;
             total-mm = h .total-mm;
-          };
+          });
       lap = ok;
     }
 

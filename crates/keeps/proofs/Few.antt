@@ -35,7 +35,8 @@ use Rattle.rounds.proofs.Keeps.{not-done-below}
 use Rattle.rounds.proofs.Parts.{over-silent}
 use Rattle.rounds.proofs.One.{round-is, unended}
 use Rattle.rounds.proofs.Loop.{next-few, closed-over, used-or-ended}
-use Rattle.updates.specs.Updates.{Called, Supposes, eventless, withCore, totalled, rideBy, rideNow, addNow, skipTo, skipNow}
+use Rattle.outcomes.specs.Outcomes.{Called, eventless, withCore, totalled}
+use Rattle.updates.specs.Updates.{Supposes, rideBy, rideNow, addNow, skipTo, skipNow}
 use Rattle.updates.proofs.Laws.{totalled-stands, read-supposes}
 use Rattle.player.specs.Calls.{updateAnswer, placesOk, rideOf, addOf, skipOf}
 use Rattle.player.proofs.Laws.{update-passed, ride-20, ride-10, ride-refused, ride-taken, skip-20, skip-14, skip-taken, add-20, add-10, add-11, add-refused, add-taken}

@@ -25,7 +25,7 @@ use Rattle.standing.specs.Facts.{Stands}
 use Rattle.standing.proofs.Known.{stands}
 use Rattle.rounds.proofs.Keeps.{same-itself, fresh-below}
 use Rattle.rounds.specs.Rounds.{riding}
-use Rattle.updates.specs.Updates.{playerOf}
+use Rattle.outcomes.specs.Outcomes.{playerOf}
 use Rattle.start.specs.Start.{freshCore, fresh}
 use Rattle.keeps.specs.Keeps.{KeepsStanding}
 use Rattle.keeps.proofs.Notes.{name-itself, step-here}

@@ -11,14 +11,15 @@ use Rattle.model.specs.declared.Workout.{Workout}
 use Rattle.order.specs.Order.{playedLen}
 use Rattle.validation.proofs.Passes.{passes}
 use Rattle.readings.specs.declared.Readings.{Readings}
-use Rattle.readings.specs.Readings.{orZero}
+use Rattle.power.specs.Power.{orZero}
 use Rattle.state.specs.declared.Core.{Core}
 use Rattle.state.specs.declared.Part.{Part}
 use Rattle.state.specs.State.{untilEnd}
 use Rattle.measure.specs.Measure.{Meter, testIn, measuredBy, measuredOf}
 use Rattle.measure.proofs.Laws.{energy-more, ramp-energy}
 use Rattle.step_end.specs.StepEnd.{isOver, nextOf, arrived}
-use Rattle.standing.specs.Facts.{Stands}
+use Rattle.standing.specs.Facts.{Within, Stands}
+use Rattle.standing.proofs.Amounts.{Amounts, amounts-within}
 use Rattle.rounds.specs.declared.Ride.{Ride}
 use Rattle.rounds.specs.Rounds.{Riding, riding, Rode, ridingOf, advanced, closedBy, closed, roundOf, stays, joined, isStopped, rounds}
 use Rattle.rounds.specs.Contracted.{Rides}
@@ -28,36 +29,20 @@ use Rattle.rounds.proofs.Loop.{after-stands}
 -- what is still to be ridden may be dropped
 pub dropped : (x y : ℕ) (w : Workout) (c : Core) → Stands x y w c → Stands 0 0 w c
 dropped x y w c s =
-    let h = s .within in
-    record {
-      within =
-          record {
-            valid = h .valid;
-            steps = h .steps;
-            summary-steps = h .summary-steps;
-            steps-done = h .steps-done;
-            skipped = h .skipped;
-            position = h .position;
-            done = h .done;
-            finished = h .finished;
-            step = h .step;
-            tallies = h .tallies;
-            targeted = omega (arith, h .targeted);
-            step-ms = omega (arith, h .step-ms);
-            step-mm = omega (arith, h .step-mm);
-            energy = h .energy;
-            test-ms = omega (arith, h .test-ms);
-            low = omega (arith, h .low);
-            rest = h .rest;
-            place = h .place;
-            long = h .long;
-            next = h .next;
-            cadence = h .cadence;
-            total-ms = h .total-ms;
-            total-mm = h .total-mm;
-          };
-      lap = s .lap;
-    }
+    let h : Within x y w c = s .within in
+    record { within = amounts-within 0 0 (c .«total_ms» .0) (c .«total_mm» .0) (c .lap) w c h (fewer x y w c h); lap = s .lap }
+  where
+    fewer : (x y : ℕ) (w : Workout) (c : Core) → Within x y w c → Amounts 0 0 (c .«total_ms» .0) (c .«total_mm» .0) (c .lap) c
+    fewer x y w c h =
+        record {
+          targeted = omega (arith, h .targeted);
+          step-ms = omega (arith, h .step-ms);
+          step-mm = omega (arith, h .step-mm);
+          test-ms = omega (arith, h .test-ms);
+          low = omega (arith, h .low);
+          total-ms = h .total-ms;
+          total-mm = h .total-mm;
+        }
 
 -- the energy is of 16-bit readings
 abbrev Energy : Meter → Type 0

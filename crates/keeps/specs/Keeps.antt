@@ -10,7 +10,7 @@ use Rattle.model.specs.declared.Workout.{Workout}
 use Rattle.model.specs.Workout.{emptyWorkout}
 use Rattle.validation.specs.Sound.{workoutAnswer}
 use Rattle.readings.specs.declared.Sample.{Sample}
-use Rattle.readings.specs.Readings.{orZero}
+use Rattle.power.specs.Power.{orZero}
 use Rattle.state.specs.declared.Player.{Player}
 use Rattle.standing.specs.Standing.{standingOf}
 use Rattle.start.specs.Start.{fresh}

@@ -146,23 +146,6 @@ drop-written d at bs n h e =
     (drop-at (take at d ++ bs) (drop (at + length bs) d) n (omega (arith, length-append (take at d) bs, length-take-le at d h))
     ∙ ap (λ (k : ℕ). drop k d) (sym e))
 
--- writing within the list keeps its length
-pub length-written : (d : List ℕ) (at : ℕ) (bs : List ℕ) → at + length bs ≤ length d → length (written d at bs) ≡ length d
-length-written d at bs h =
-    omega (
-      arith,
-      length-append (take at d) (bs ++ drop (at + length bs) d),
-      length-append bs (drop (at + length bs) d),
-      length-drop (at + length bs) d,
-      length-take-le at d (omega arith),
-    )
-
--- what was written is read back
-pub part-written : (d : List ℕ) (at : ℕ) (bs : List ℕ) → at ≤ length d → part (written d at bs) at (length bs) ≡ bs
-part-written d at bs h =
-    ap (take (length bs)) (drop-at (take at d) (bs ++ drop (at + length bs) d) at (length-take-le at d h))
-    ∙ take-at bs (drop (at + length bs) d) (length bs) refl
-
 -- two runs written one after the other are one
 pub written-two : (d : List ℕ) (at : ℕ) (bs cs : List ℕ) (n : ℕ) → at ≤ length d → n ≡ at + length bs
     → written (written d at bs) n cs ≡ written d at (bs ++ cs)

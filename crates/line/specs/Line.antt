@@ -12,8 +12,8 @@ use Rattle.refusal.specs.declared.Refusal.{Refusal}
 use Rattle.refusal.specs.declared.Answer.{Answer}
 use Rattle.refusal.specs.declared.Answer.the-variants.{Accepted, Refused}
 use Rattle.refusal.specs.Number.{numberOf}
-use Rattle.readings.specs.declared.ReadingOption.{ReadingOption}
-use Rattle.readings.specs.declared.ReadingOption.the-variants as reading
+use Rattle.power.specs.declared.ReadingOption.{ReadingOption}
+use Rattle.power.specs.declared.ReadingOption.the-variants as reading
 use Rattle.state.specs.declared.Summary.{Summary}
 use Rattle.sheet.specs.declared.ActOption.{ActOption}
 use Rattle.sheet.specs.declared.ActOption.the-variants.{None, Some}

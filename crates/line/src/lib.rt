@@ -5,7 +5,7 @@ ghost use lib.ListN.{length};
 ghost use Rattle.le.specs.Le.{written};
 ghost use Rattle.io.specs.Counts.{Counts};
 ghost use Rattle.line.specs.Line.{decimalOf, fieldOf, countsOf, timesOf, yesOrNo, wattsOrNone, endOf, summaryText, actText, refusalText, outcomeBy, lineOf, Wrote};
-use readings::ReadingOption;
+use power::ReadingOption;
 use refusal::Answer;
 use refusal::Refusal;
 use replay::Ridden;

@@ -25,15 +25,16 @@ use Rattle.model.specs.Target.{bandOf, rampOption}
 use Rattle.order.specs.declared.Played.{Played}
 use Rattle.order.specs.declared.PlayedOption.{PlayedOption}
 use Rattle.order.specs.Order.{playedOf, playedLen}
-use Rattle.readings.specs.declared.ReadingOption.{ReadingOption}
-use Rattle.readings.specs.declared.ReadingOption.the-variants.{None, Some}
+use Rattle.power.specs.declared.ReadingOption.{ReadingOption}
+use Rattle.power.specs.declared.ReadingOption.the-variants.{None, Some}
 use Rattle.readings.specs.declared.Sample.{Sample}
 use Rattle.readings.specs.declared.Readings.{Readings}
 use Rattle.readings.specs.declared.Compliance.the-variants.{Under, In, Over}
 use Rattle.readings.specs.declared.ComplianceOption.{ComplianceOption}
 use Rattle.readings.specs.declared.ComplianceOption.the-variants.{NoBand, NoReading}
 use Rattle.readings.specs.declared.ComplianceOption.the-variants as how
-use Rattle.readings.specs.Readings.{orZero, averageOf, perMinute, judged, readingOf, complianceOf}
+use Rattle.power.specs.Power.{orZero, averageOf}
+use Rattle.readings.specs.Readings.{perMinute, judged, readingOf, complianceOf}
 use Rattle.events.specs.Events.{Event, countdown, finished, ftp, eventsIf}
 use Rattle.state.specs.declared.Lap.{Lap}
 use Rattle.state.specs.declared.Summary.{Summary}

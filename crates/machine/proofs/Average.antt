@@ -8,11 +8,11 @@ use native.Mathlib.Omega.{arith}
 use lib.ListN.{length, take, drop, set, replicate, length-set, length-take, take-append-drop, length-map}
 use lib.Seq.{take-take}
 use Rattle.common.specs.Lists.{sum}
-use Rattle.readings.specs.declared.ReadingOption.{ReadingOption}
-use Rattle.readings.specs.declared.ReadingOption.the-variants.{None, Some}
+use Rattle.power.specs.declared.ReadingOption.{ReadingOption}
+use Rattle.power.specs.declared.ReadingOption.the-variants.{None, Some}
 use Rattle.readings.specs.declared.Sample.{Sample}
-use Rattle.readings.specs.declared.Power3s.{Power3s}
-use Rattle.readings.specs.Readings.{orZero, isSome, countOf, readingAt, window, meanBy, average, averageOf, added}
+use Rattle.power.specs.declared.Power3s.{Power3s}
+use Rattle.power.specs.Power.{orZero, isSome, countOf, readingAt, window, meanBy, average, averageOf, added}
 use Rattle.machine.specs.Machine.{powerOf}
 use Rattle.machine.proofs.Seconds.{backwards, stored}
 

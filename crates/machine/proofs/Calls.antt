@@ -18,8 +18,8 @@ use Rattle.model.specs.declared.Length.{Length}
 use Rattle.model.specs.declared.Length.the-variants.{Time, Distance, Open}
 use Rattle.model.specs.declared.Step.{Step}
 use Rattle.model.specs.declared.Workout.{Workout}
-use Rattle.readings.specs.declared.ReadingOption.{ReadingOption}
-use Rattle.readings.specs.declared.ReadingOption.the-variants.{None, Some}
+use Rattle.power.specs.declared.ReadingOption.{ReadingOption}
+use Rattle.power.specs.declared.ReadingOption.the-variants.{None, Some}
 use Rattle.readings.specs.declared.Sample.{Sample}
 use Rattle.readings.specs.Readings.{taken}
 use Rattle.events.specs.Events.{Event}
@@ -28,9 +28,10 @@ use Rattle.state.specs.State.{readCore}
 use Rattle.step_end.specs.StepEnd.{nextOf}
 use Rattle.rounds.specs.Rounds.{Riding, riding, Rode, ridingOf, rounds}
 use Rattle.standing.specs.Standing.{standingOf, cadenceIn}
-use Rattle.updates.specs.declared.Update.{Update}
+use Rattle.outcomes.specs.declared.Update.{Update}
 use Rattle.player.specs.Calls as player
-use Rattle.updates.specs.Updates.{Called, eventless, playerOf, withCore, totalled, rideBy, rideNow, skipTo, skipNow, notExtended, longerCore, notLonger, extendedBy, longerBy, extendCore, extendBy}
+use Rattle.outcomes.specs.Outcomes.{Called, eventless, playerOf, withCore, totalled, notExtended, longerCore, notLonger, extendedBy, longerBy, extendCore, extendBy}
+use Rattle.updates.specs.Updates.{rideBy, rideNow, skipTo, skipNow}
 use Rattle.player.specs.Calls.{answered, updateAnswer, rideAnswer, rideOf, readAnswer, readBy, readOf, skipAnswer, skipOf, extendNow, extendOf}
 use Rattle.machine.specs.Machine.{Machine, stepAt, reading, extraIn, extraAfter, withExtra, skipped, milliseconds}
 use Rattle.machine.specs.Cutting.{read, skip, extend, Piece}

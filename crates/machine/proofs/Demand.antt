@@ -40,10 +40,6 @@ module _ (w : Workout) (p : TrainingProfile) (T : Taken w) (ok : profileOk p ≡
   summary-alone cs h =
       ap (λ (xs : List Call). run p xs (newOf w .player) .player .core .summary) (sym (alone-is cs)) ∙ summary-is (alone cs) h
 
-  -- the player after every cut list stands
-  pub stands-after : (l : List CutCall) → AllWellCut l → standingOf (cutRun w p l .player) ≡ true
-  stands-after l h = after-list l h .after .stands
-
   after-calls : (l : List CutCall) → AllWellCut l → demand.After w p l
   after-calls l h =
       let A : RunIs w p T ok [] (cutRun w p l) (callsAsk w p l begun) (afterCalls w p l begun) = after-list l h in

@@ -14,7 +14,7 @@ use Rattle.model.specs.declared.Step.{Step}
 use Rattle.model.specs.declared.Workout.{Workout}
 use Rattle.order.specs.Order.{playedOf}
 use Rattle.readings.specs.declared.Sample.{Sample}
-use Rattle.readings.specs.Readings.{window}
+use Rattle.power.specs.Power.{window}
 use Rattle.events.specs.Events.{Event}
 use Rattle.state.specs.declared.Player.{Player}
 use Rattle.standing.specs.Standing.{standingOf}

@@ -17,8 +17,9 @@ use Rattle.state.specs.declared.Player.{Player}
 use Rattle.step_end.specs.StepEnd.{nextOf}
 use Rattle.rounds.specs.Rounds.{Rode, riding, rounds}
 use Rattle.standing.specs.Standing.{standingOf}
-use Rattle.updates.specs.declared.Extended.{Extended}
-use Rattle.updates.specs.Updates.{Called, eventless, totalled, rideBy, rideNow, skipTo, skipNow, notExtended, longerCore, notLonger, extendedBy, extendCore, extendBy}
+use Rattle.outcomes.specs.declared.Extended.{Extended}
+use Rattle.outcomes.specs.Outcomes.{Called, eventless, totalled, notExtended, longerCore, notLonger, extendedBy, extendCore, extendBy}
+use Rattle.updates.specs.Updates.{rideBy, rideNow, skipTo, skipNow}
 use Rattle.player.specs.Calls.{answered, rideAnswer, rideOf, readAnswer, readBy, readOf, skipAnswer, skipOf, extendNow, extendOf}
 use Rattle.machine.specs.Cutting.{read, ride, skip, extend}
 use Rattle.machine.specs.Runs.{ofRead, ofExtend, called}

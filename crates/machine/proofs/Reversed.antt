@@ -9,8 +9,8 @@ use lib.ListN.{length, take, drop, length-append, length-drop, length-reverse, t
 use lib.Seq.{take-all, take-append-le, drop-at}
 use borrow.Author.Tests.{leb-true, leb-false}
 use Rattle.common.specs.Lists.{sum}
-use Rattle.readings.specs.declared.ReadingOption.{ReadingOption}
-use Rattle.readings.specs.declared.ReadingOption.the-variants.{None, Some}
+use Rattle.power.specs.declared.ReadingOption.{ReadingOption}
+use Rattle.power.specs.declared.ReadingOption.the-variants.{None, Some}
 use Rattle.machine.specs.Machine.{mean, greater, greatest}
 use Rattle.machine.specs.ThirdDemand.{SecondsEitherWay}
 use Rattle.machine.proofs.Seconds.{sum-reverse, greatest-none, greatest-full}

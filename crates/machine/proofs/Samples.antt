@@ -6,7 +6,8 @@ use Rattle.blocks.specs.Blocks.{repeats}
 use Rattle.model.specs.Target.{bandOf}
 use Rattle.order.specs.Order as order
 use Rattle.order.specs.Order.{playedOf, playedLen, nth, run, runs, blockAt}
-use Rattle.readings.specs.Readings.{average, judged, meanBy}
+use Rattle.power.specs.Power.{average, meanBy}
+use Rattle.readings.specs.Readings.{judged}
 use Rattle.machine.specs.Machine.{start, stepAt, isFinished, reading, withExtra, skipped, ended, result, ramp, twenty, mean, greatest, tally, summed, rested, ridden, isOver, closed, readingFor, millisecondIn, millisecond, milliseconds, summaryOf}
 use Rattle.machine.specs.Runs.{begun, pieceAsks, unlessRefused, withPiece, afterPiece, afterPieces, afterCall, afterCalls, piecesAsk, callAsks, callsAsk}
 use Rattle.machine.specs.Samples.{Samples}

@@ -12,8 +12,8 @@ use lib.ListN.{length, take, drop, set, getD, replicate, length-append, length-t
 use lib.Seq.{take-nil, take-suc-set, drop-set-lt, drop-cons, take-at, take-all, take-take}
 use borrow.Author.Tests.{eqb-true, eqb-false, leb-true, leb-false, le-leb, lt-leb}
 use Rattle.common.specs.Lists.{sum}
-use Rattle.readings.specs.declared.ReadingOption.{ReadingOption}
-use Rattle.readings.specs.declared.ReadingOption.the-variants.{None, Some}
+use Rattle.power.specs.declared.ReadingOption.{ReadingOption}
+use Rattle.power.specs.declared.ReadingOption.the-variants.{None, Some}
 use Rattle.measure.specs.Measure.{Minute, above, bestAfter, meanOf, pushed, pushes}
 use Rattle.machine.specs.Machine.{mean, greater, greatest}
 

@@ -4,7 +4,7 @@ use mathlib.Core.List.{List, [], _∷_, _++_, map}
 use Prim.Native.Nat.{ℕ, _+_, _<_}
 use lib.ListN.{length}
 use Rattle.readings.specs.declared.Sample.{Sample}
-use Rattle.readings.specs.Readings.{orZero}
+use Rattle.power.specs.Power.{orZero}
 
 -- "every list of read, ride, skip and extend calls", each with its arguments but for player and profile: a reading's sample; a
 -- ride's ms, mm and lengths of the lent arrays of kinds and values; a skip's lengths of those arrays.

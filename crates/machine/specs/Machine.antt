@@ -27,14 +27,15 @@ use Rattle.model.specs.declared.Workout.{Workout}
 use Rattle.model.specs.Target.{bandOf}
 use Rattle.order.specs.declared.PlayedOption.{PlayedOption}
 use Rattle.order.specs.Order.{playedOf, playedLen}
-use Rattle.readings.specs.declared.ReadingOption.{ReadingOption}
-use Rattle.readings.specs.declared.ReadingOption.the-variants.{None, Some}
+use Rattle.power.specs.declared.ReadingOption.{ReadingOption}
+use Rattle.power.specs.declared.ReadingOption.the-variants.{None, Some}
 use Rattle.readings.specs.declared.Sample.{Sample}
 use Rattle.readings.specs.declared.Compliance.the-variants.{Under, In, Over}
 use Rattle.readings.specs.declared.ComplianceOption.{ComplianceOption}
 use Rattle.readings.specs.declared.ComplianceOption.the-variants.{NoBand, NoReading}
 use Rattle.readings.specs.declared.ComplianceOption.the-variants as how
-use Rattle.readings.specs.Readings.{orZero, noSample, average, perMinute, judged}
+use Rattle.power.specs.Power.{orZero, average}
+use Rattle.readings.specs.Readings.{noSample, perMinute, judged}
 use Rattle.events.specs.Events.{Event, started, finished, ftp}
 use Rattle.state.specs.declared.Summary.{Summary}
 

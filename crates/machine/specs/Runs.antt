@@ -11,14 +11,14 @@ use Rattle.refusal.specs.declared.Refusal.the-variants as refusals
 use Rattle.refusal.specs.Number.{ask}
 use Rattle.zones.specs.declared.TrainingProfile.{TrainingProfile}
 use Rattle.model.specs.declared.Workout.{Workout}
-use Rattle.readings.specs.declared.ReadingOption.{ReadingOption}
-use Rattle.readings.specs.declared.ReadingOption.the-variants.{None, Some}
+use Rattle.power.specs.declared.ReadingOption.{ReadingOption}
+use Rattle.power.specs.declared.ReadingOption.the-variants.{None, Some}
 use Rattle.readings.specs.declared.Sample.{Sample}
 use Rattle.events.specs.Events.{Event}
 use Rattle.state.specs.declared.Player.{Player}
-use Rattle.updates.specs.declared.Update.{Update}
-use Rattle.updates.specs.declared.Extended.{Extended}
-use Rattle.updates.specs.Updates.{Called}
+use Rattle.outcomes.specs.declared.Update.{Update}
+use Rattle.outcomes.specs.declared.Extended.{Extended}
+use Rattle.outcomes.specs.Outcomes.{Called}
 use Rattle.player.specs.Calls.{readOf, rideOf, skipOf, extendOf}
 use Rattle.machine.specs.Machine.{Machine, start, stepAt, reading, extraAfter, withExtra, skipped, milliseconds}
 use Rattle.machine.specs.Cutting.{Call, read, ride, skip, extend, Piece, CutCall}

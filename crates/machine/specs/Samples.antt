@@ -19,7 +19,7 @@ use Rattle.model.specs.declared.Test.the-variants as tests
 use Rattle.model.specs.declared.Step.{Step}
 use Rattle.model.specs.declared.Workout.{Workout}
 use Rattle.model.specs.Workout.{noStep, noBlock}
-use Rattle.readings.specs.declared.ReadingOption.the-variants.{None, Some}
+use Rattle.power.specs.declared.ReadingOption.the-variants.{None, Some}
 use Rattle.readings.specs.declared.Sample.{Sample}
 use Rattle.events.specs.Events.{started, finished, ftp}
 use Rattle.machine.specs.Machine.{Machine, summaryOf}

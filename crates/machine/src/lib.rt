@@ -1,9 +1,9 @@
 // Document 01, 'The millisecond machine', and the third demand. The crate has statements; its functions compute nothing.
 ghost use Prim.Native.Nat.{_<_};
-ghost use Rattle.readings.specs.Readings.{orZero};
+ghost use Rattle.power.specs.Power.{orZero};
 ghost use Rattle.machine.specs.Samples.{Samples};
 ghost use Rattle.machine.specs.ThirdDemand.{ThirdDemand, PiecesAtOnce, RefusedStays, SecondsEitherWay};
-use readings::ReadingOption;
+use power::ReadingOption;
 
 // The third demand: after each call of a list, cut as one likes, the record and the events are the millisecond machine's.
 pub fn third_demand()

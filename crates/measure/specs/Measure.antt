@@ -17,10 +17,10 @@ use Rattle.model.specs.declared.Test.the-variants as tests
 use Rattle.model.specs.declared.RampOption.{RampOption}
 use Rattle.model.specs.declared.RampOption.the-variants as ramps
 use Rattle.model.specs.Target.{rampOption, wattsAt}
-use Rattle.readings.specs.declared.ReadingOption.{ReadingOption}
-use Rattle.readings.specs.declared.ReadingOption.the-variants.{None, Some}
+use Rattle.power.specs.declared.ReadingOption.{ReadingOption}
+use Rattle.power.specs.declared.ReadingOption.the-variants.{None, Some}
 use Rattle.readings.specs.declared.Readings.{Readings}
-use Rattle.readings.specs.Readings.{orZero, averageOf}
+use Rattle.power.specs.Power.{orZero, averageOf}
 use Rattle.state.specs.declared.Ring.{Ring}
 use Rattle.state.specs.declared.Measured.{Measured}
 use Rattle.state.specs.declared.Lap.{Lap}

@@ -12,7 +12,7 @@ use model::Intensity;
 use model::Length;
 use model::RampOption;
 use model::Test;
-use readings::ReadingOption;
+use power::ReadingOption;
 use readings::Readings;
 use state::Lap;
 use state::Measured;

@@ -21,9 +21,10 @@ use Rattle.state.specs.declared.Player.{Player}
 use Rattle.standing.specs.Standing.{standingOf, belowEnd, lapOk, cadenceIn}
 use Rattle.standing.specs.Facts.{Stands}
 use Rattle.standing.proofs.Known.{known}
-use Rattle.updates.specs.declared.Update.{Update}
+use Rattle.outcomes.specs.declared.Update.{Update}
 use Rattle.state.specs.State.{updateOk}
-use Rattle.updates.specs.Updates.{Supposes, ExtraFits, addNow, eventless, rideNow, skipNow}
+use Rattle.outcomes.specs.Outcomes.{ExtraFits, eventless}
+use Rattle.updates.specs.Updates.{Supposes, addNow, rideNow, skipNow}
 use Rattle.player.specs.Calls.{answered, addAnswer, addOf, totalsWith, placesOk, updateAnswer, rideAnswer, rideOf, skipAnswer, skipOf}
 
 -- a profile that passes its question, and one that does not

@@ -13,9 +13,10 @@ use Rattle.state.specs.declared.Core.{Core}
 use Rattle.state.specs.declared.Player.{Player}
 use Rattle.state.specs.State.{readCore, updateOk}
 use Rattle.standing.specs.Standing.{standingOf, cadenceIn}
-use Rattle.updates.specs.declared.Update.{Update}
-use Rattle.updates.specs.declared.Extended.{Extended}
-use Rattle.updates.specs.Updates.{Called, eventless, eventlessUpdate, withCore, rideNow, addNow, skipNow, notExtended, extendBy}
+use Rattle.outcomes.specs.declared.Update.{Update}
+use Rattle.outcomes.specs.declared.Extended.{Extended}
+use Rattle.outcomes.specs.Outcomes.{Called, eventless, eventlessUpdate, withCore, notExtended, extendBy}
+use Rattle.updates.specs.Updates.{rideNow, addNow, skipNow}
 
 -- Refused, a call leaves the player, with 0 events and 0 parts.
 abbrev pub answered : Answer → Player → Called → Called

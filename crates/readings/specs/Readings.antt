@@ -1,10 +1,8 @@
--- player.rs: readings, the three-reading average, and where a reading sits against a band.
-use mathlib.Core.Bool.{Bool, true, false, cond}
-use mathlib.Core.List.{List, [], _∷_, map}
-use Prim.Native.Nat.{ℕ, zero, suc, _+_, _/_, _%_}
+-- player.rs: the readings, the one that a metric is checked by, and where it sits against a band.
+use mathlib.Core.Bool.{Bool, false, cond}
+use Prim.Native.Nat.{ℕ, _+_, _/_, _%_}
 use lib.Dec.{ltb, eqb}
-use lib.ListN.{set, replicate}
-use Rattle.common.specs.Lists.{sum}
+use lib.ListN.{replicate}
 use Rattle.zones.specs.declared.TrainingProfile.{TrainingProfile}
 use Rattle.zones.specs.Zones.{clamped, heartZone}
 use Rattle.model.specs.declared.Metric.{Metric}
@@ -14,10 +12,10 @@ use Rattle.model.specs.declared.BandOption.{BandOption}
 use Rattle.model.specs.declared.BandOption.the-variants as bands
 use Rattle.model.specs.declared.Target.{Target}
 use Rattle.model.specs.declared.Target.the-variants.{Free, Ftp, Watts, HeartZone, Lthr, Cadence, Ramp, FtpRamp}
-use Rattle.readings.specs.declared.ReadingOption.{ReadingOption}
-use Rattle.readings.specs.declared.ReadingOption.the-variants.{None, Some}
+use Rattle.power.specs.declared.ReadingOption.{ReadingOption}
+use Rattle.power.specs.declared.ReadingOption.the-variants.{None, Some}
+use Rattle.power.specs.Power.{averageOf, added}
 use Rattle.readings.specs.declared.Sample.{Sample}
-use Rattle.readings.specs.declared.Power3s.{Power3s}
 use Rattle.readings.specs.declared.Readings.{Readings}
 use Rattle.readings.specs.declared.Compared.{Compared}
 use Rattle.readings.specs.declared.Compliance.{Compliance}
@@ -25,20 +23,11 @@ use Rattle.readings.specs.declared.Compliance.the-variants.{Under, In, O
 use Rattle.readings.specs.declared.ComplianceOption.{ComplianceOption}
 use Rattle.readings.specs.declared.ComplianceOption.the-variants as how
 
--- The reading, or 0.
-abbrev pub orZero : ReadingOption → ℕ
-orZero None = 0
-orZero (Some value) = value
-
-abbrev pub isSome : ReadingOption → Bool
-isSome None = false
-isSome (Some value) = true
-
 -- Whether the flag of this value is among the flags.
 abbrev pub flagSet : ℕ → ℕ → Bool
 flagSet flags value = eqb (flags / value % 2) 1
 
--- The average.
+-- Before the first sample.
 
 abbrev pub noSample : Sample
 noSample = record { «power_watts» = None; «heart_bpm» = None; «cadence_tenths» = None }
@@ -48,42 +37,6 @@ noReadings =
     record {
       «last_sample» = noSample;
       power = record { watts = replicate 3 0; present = replicate 3 false; next = 0 };
-    }
-
-abbrev pub onePresent : Bool → ℕ
-onePresent present = cond present 1 0
-
-abbrev pub readingAt : Bool → ℕ → ReadingOption
-readingAt present value = cond present (Some value) None
-
--- The readings of a window, absent ones too, in the order of its places.
-unfoldable pub window : List Bool → List ℕ → List ReadingOption
-window [] ws = []
-window (b ∷ bs) [] = []
-window (b ∷ bs) (w ∷ ws) = readingAt b w ∷ window bs ws
-
-abbrev pub countOf : ReadingOption → ℕ
-countOf r = onePresent (isSome r)
-
--- The mean of a count of readings, rounded half up; none of none.
-unfoldable pub meanBy : ℕ → ℕ → ReadingOption
-meanBy total zero = None
-meanBy total (suc n) = Some ((total + suc n / 2) / suc n)
-
--- "the three-reading average": the mean of those readings that are present.
-unfoldable pub average : List ReadingOption → ReadingOption
-average rs = meanBy (sum (map orZero rs)) (sum (map countOf rs))
-
-unfoldable pub averageOf : Power3s → ReadingOption
-averageOf p = average (window (p .present) (p .watts))
-
--- "The three-reading average .. takes one reading a call." It takes the place of the oldest; an absent one has 0 watts.
-unfoldable pub added : ReadingOption → Power3s → Power3s
-added r p =
-    record {
-      watts = set (p .watts) (p .next % 3) (orZero r);
-      present = set (p .present) (p .next % 3) (isSome r);
-      next = (p .next % 3 + 1) % 3;
     }
 
 -- player.rs, `read`: the sample's power joins the average, and the sample is the last one.

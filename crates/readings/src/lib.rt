@@ -1,20 +1,16 @@
-// ride/log.rs's `Sample`, of which the workout module uses three readings, and player.rs's `Power3s`, `reading` and `compliance`.
+// ride/log.rs's `Sample`, of which the workout module uses three readings, and player.rs's `read`, `reading` and `compliance`.
 ghost use mathlib.Core.Path.{_≡_};
-ghost use mathlib.Core.Bool.{cond};
-ghost use Prim.Native.Nat.{_*_, _≤_, min, max};
+ghost use Prim.Native.Nat.{_≤_};
 ghost use Rattle.zones.specs.Zones.{clamped};
-ghost use Rattle.readings.specs.Readings.{orZero, isSome, flagSet, readingAt, onePresent, added, meanBy, averageOf, perMinute, readingOf, against, compared, judged, complianceOf, taken, noReadings};
+ghost use Rattle.readings.specs.Readings.{flagSet, perMinute, readingOf, against, compared, judged, complianceOf, taken, noReadings};
 use model::Band;
 use model::BandOption;
 use model::Metric;
 use model::Target;
+use power::Power3s;
+use power::ReadingOption;
+use power::with_reading;
 use zones::TrainingProfile;
-
-// A reading, or a number made of readings, if there is one.
-pub enum ReadingOption {
-    None,
-    Some(u16),
-}
 
 // The three readings of log.rs's `Sample` that the player uses.
 pub struct Sample {
@@ -22,13 +18,6 @@ pub struct Sample {
     pub heart_bpm: ReadingOption,
     // Tenths of a turn per minute.
     pub cadence_tenths: ReadingOption,
-}
-
-// The last three power readings; `next` is the place of the oldest. An absent reading is `false` with 0 watts.
-pub struct Power3s {
-    pub watts: [u16; 3],
-    pub present: [bool; 3],
-    pub next: u8,
 }
 
 // What the rider's sensors say: the last sample, and the average that power is checked as.
@@ -71,103 +60,12 @@ pub fn no_readings() -> Readings
     NO_READINGS
 }
 
-impl ReadingOption {
-    // The reading, or 0.
-    pub fn or_zero(self) -> u16
-        ensures { λ r. ⌜ r ≡ orZero self ⌝ }
-    {
-        match self {
-            ReadingOption::None => 0,
-            ReadingOption::Some(value) => value,
-        }
-    }
-
-    pub fn is_some(self) -> bool
-        ensures { λ r. ⌜ r ≡ isSome self ⌝ }
-    {
-        match self {
-            ReadingOption::None => false,
-            ReadingOption::Some(_) => true,
-        }
-    }
-}
-
 // Whether the flag of this value is among the flags.
 pub fn is_set(flags: u16, value: u16) -> bool
     requires { ⌜ 1 ≤ value ⌝ }
     ensures { λ r. ⌜ r ≡ flagSet flags value ⌝ }
 {
     flags / value % 2 == 1
-}
-
-// A reading where its flag says that it is present.
-pub fn reading_at(present: bool, value: u16) -> ReadingOption
-    ensures { λ r. ⌜ r ≡ readingAt present value ⌝ }
-{
-    if present {
-        ReadingOption::Some(value)
-    } else {
-        ReadingOption::None
-    }
-}
-
-// The watts of one place, 0 where its reading is absent.
-fn given(present: bool, watts: u16) -> u32
-    ensures { λ r. ⌜ (r ≡ cond present watts 0) × (r ≤ 65535 * onePresent present) × (r ≤ 65535) ⌝ }
-{
-    if present { watts as u32 } else { 0 }
-}
-
-fn one_if(present: bool) -> u8
-    ensures { λ r. ⌜ (r ≡ onePresent present) × (r ≤ 1) ⌝ }
-{
-    if present { 1 } else { 0 }
-}
-
-// The mean of `count` readings, rounded half up: by cases, so that each division is by a constant.
-fn mean(total: u32, count: u8) -> ReadingOption
-    requires { ⌜ (total ≤ 65535 * count) × (count ≤ 3) ⌝ }
-    ensures { λ r. ⌜ r ≡ meanBy total count ⌝ }
-{
-    if count == 3 {
-        return ReadingOption::Some(((total + 1) / 3) as u16);
-    }
-    if count == 2 {
-        return ReadingOption::Some(((total + 1) / 2) as u16);
-    }
-    if count == 1 {
-        return ReadingOption::Some(total as u16);
-    }
-    ReadingOption::None
-}
-
-impl Power3s {
-    // One reading more, in the place of the oldest. A place past the last is taken modulo 3.
-    pub fn add(self, watts: ReadingOption) -> Power3s
-        ensures { λ r. ⌜ r ≡ added watts self ⌝ }
-    {
-        let mut q = self;
-        let at = (q.next % 3) as usize;
-        let value = watts.or_zero();
-        let present = watts.is_some();
-        q.watts[at] = value;
-        q.present[at] = present;
-        q.next = ((at + 1) % 3) as u8;
-        q
-    }
-
-    // The mean of the readings in the window, none without any.
-    pub fn watts(self) -> ReadingOption
-        ensures { λ r. ⌜ r ≡ averageOf self ⌝ }
-    {
-        let watts = self.watts;
-        let present = self.present;
-        let total = given(present[0], watts[0])
-            + given(present[1], watts[1])
-            + given(present[2], watts[2]);
-        let count = one_if(present[0]) + one_if(present[1]) + one_if(present[2]);
-        mean(total, count)
-    }
 }
 
 // Whole turns per minute of a cadence in tenths, rounded half up.
@@ -189,7 +87,7 @@ impl Readings {
         let watts = sample.power_watts;
         Readings {
             last_sample: sample,
-            power: power.add(watts),
+            power: with_reading(power, watts),
         }
     }
 

@@ -12,7 +12,7 @@ use Rattle.refusal.specs.Number.{ask}
 use Rattle.names.specs.Names.{nameOk}
 use Rattle.model.specs.declared.Test.{Test}
 use Rattle.encode.specs.Encode.{testKind}
-use Rattle.readings.specs.Readings.{orZero}
+use Rattle.power.specs.Power.{orZero}
 use Rattle.state.specs.declared.Summary.{Summary}
 use Rattle.history.specs.declared.Record.{Record}
 use Rattle.history.specs.Record.{magic, version, bodySize, recordSize, flagsOf, startMs, millis, recordBytes}

@@ -24,7 +24,8 @@ use Rattle.rounds.specs.Contracted.{Rides, Ridden}
 use Rattle.rounds.proofs.Loop as loop
 use Rattle.standing.specs.Standing.{cadenceIn}
 use Rattle.standing.proofs.Known.{known}
-use Rattle.updates.specs.Updates.{Supposes, playerOf, totalled}
+use Rattle.outcomes.specs.Outcomes.{playerOf, totalled}
+use Rattle.updates.specs.Updates.{Supposes}
 use Rattle.updates.proofs.Laws.{start-rides}
 use Rattle.player.specs.Calls.{updateAnswer}
 use Rattle.player.proofs.Laws.{update-passed}

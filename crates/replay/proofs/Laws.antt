@@ -30,7 +30,8 @@ use Rattle.rounds.specs.Contracted.{Ridden}
 use Rattle.rounds.proofs.One.{next-fits}
 use Rattle.standing.specs.Standing.{standingOf, cadenceIn}
 use Rattle.standing.proofs.Known.{known}
-use Rattle.updates.specs.Updates.{Called, ExtraFits, eventless, playerOf, begun, skipTo, skipNow, notExtended, longerCore, notLonger, extendCore, extendedBy, extendBy}
+use Rattle.outcomes.specs.Outcomes.{Called, ExtraFits, eventless, playerOf, notExtended, longerCore, notLonger, extendCore, extendedBy, extendBy}
+use Rattle.updates.specs.Updates.{begun, skipTo, skipNow}
 use Rattle.updates.proofs.Laws.{ride-idle, ride-made}
 use Rattle.player.specs.Calls.{readBy, readAnswer, readOf, updateAnswer, extendNow, extendOf}
 use Rattle.player.proofs.Laws.{ride-refused, ride-taken, skip-taken, extra-fits}

@@ -28,7 +28,7 @@ use Rattle.rounds.specs.Rounds.{riding}
 use Rattle.standing.specs.Standing.{standingOf}
 use Rattle.start.specs.declared.NewPlayer.{NewPlayer}
 use Rattle.start.specs.Start.{fresh, newBy, newOf}
-use Rattle.updates.specs.Updates.{Called, playerOf}
+use Rattle.outcomes.specs.Outcomes.{Called, playerOf}
 use Rattle.keeps.proofs.Fresh.{fresh-made, keeps-standing}
 use Rattle.history.specs.Record.{recordSize}
 use Rattle.record_writer.specs.Write.{writeAnswer, outputBy, outputOf}

@@ -18,8 +18,8 @@ use Rattle.step_end.specs.StepEnd.{Outcome, nextOf}
 use Rattle.rounds.specs.Rounds.{riding}
 use Rattle.standing.specs.Standing.{standingOf}
 use Rattle.start.specs.Start.{noSummary}
-use Rattle.updates.specs.declared.ExtendedCore.{ExtendedCore}
-use Rattle.updates.specs.Updates.{Called, eventless, playerOf, extendCore}
+use Rattle.outcomes.specs.declared.ExtendedCore.{ExtendedCore}
+use Rattle.outcomes.specs.Outcomes.{Called, eventless, playerOf, extendCore}
 use Rattle.machine.specs.Cutting.{Call, read, ride, skip, extend}
 use Rattle.machine.specs.Runs.{called}
 use Rattle.sheet.specs.declared.Act.{Act}

@@ -7,7 +7,7 @@ ghost use lib.ListN.{length};
 ghost use Rattle.zones.specs.Zones.{profileOk};
 ghost use Rattle.rounds.specs.Rounds.{riding};
 ghost use Rattle.step_end.specs.StepEnd.{NextFits};
-ghost use Rattle.updates.specs.Updates.{ExtraFits, playerOf};
+ghost use Rattle.outcomes.specs.Outcomes.{ExtraFits, playerOf};
 ghost use Rattle.sheet.specs.Sheet.{sizeOk, actsFrom};
 ghost use Rattle.replay.specs.Acts.{actCalled, nothingRidden, playActs, Ready, Acts, isQuiet, eventlessAct, skipOutcome, Skips, extendAct};
 ghost use Rattle.replay.specs.Replay.{Fresh, playSheet, riddenOf, replayAnswer, replayOutput};
@@ -17,6 +17,8 @@ use machine::reading_fits;
 use model::Test;
 use model::Workout;
 use names::Name;
+use outcomes::add_totals;
+use outcomes::extend_core;
 use player::EXTEND_M;
 use player::EXTEND_S;
 use player::update_answer;
@@ -46,8 +48,6 @@ use state::Player;
 use state::Summary;
 use step_end::is_over;
 use step_end::next;
-use updates::add_totals;
-use updates::extend_core;
 use zones::TrainingProfile;
 
 // What a sheet came to: the answer, and what the record takes from workout and player; refused, nothing.

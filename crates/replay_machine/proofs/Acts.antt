@@ -20,7 +20,8 @@ use Rattle.validation.specs.Sound.{workoutAnswer}
 use Rattle.validation.proofs.Passes.{ask-left}
 use Rattle.codec.specs.RoundTrip.{acceptedAs}
 use Rattle.codec.proofs.Fillers.{read-is-written}
-use Rattle.readings.specs.Readings.{orZero, flagSet, readingAt}
+use Rattle.power.specs.Power.{orZero, readingAt}
+use Rattle.readings.specs.Readings.{flagSet}
 use Rattle.state.specs.declared.Summary.{Summary}
 use Rattle.start.specs.Start.{fresh, newBy, newOf}
 use Rattle.history.specs.Record.{recordOf, recordBytes}

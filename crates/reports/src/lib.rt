@@ -7,8 +7,8 @@ ghost use Rattle.reports.specs.Reports.{summaryOf, remainingSecs, distan
 use model::BandOption;
 use order::NO_PLAYED;
 use order::PlayedOption;
+use power::ReadingOption;
 use readings::ComplianceOption;
-use readings::ReadingOption;
 use refusal::Answer;
 use refusal::Refusal;
 use screen::Left;

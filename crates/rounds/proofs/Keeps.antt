@@ -18,8 +18,8 @@ use Rattle.order.specs.Order.{playedOf, playedLen}
 use Rattle.order.proofs.Within.{playing-order}
 use Rattle.validation.proofs.Passes.{Passes, passes, played-sound}
 use Rattle.validation.specs.Sound.{lengthOk}
-use Rattle.readings.specs.declared.ReadingOption.{ReadingOption}
-use Rattle.readings.specs.declared.ReadingOption.the-variants.{None, Some}
+use Rattle.power.specs.declared.ReadingOption.{ReadingOption}
+use Rattle.power.specs.declared.ReadingOption.the-variants.{None, Some}
 use Rattle.readings.specs.declared.Compliance.the-variants.{Under, In, Over}
 use Rattle.readings.specs.declared.ComplianceOption.{ComplianceOption}
 use Rattle.readings.specs.declared.ComplianceOption.the-variants.{NoBand, NoReading}
@@ -31,7 +31,7 @@ use Rattle.state.specs.State.{tallied, stepNow, freshLap}
 use Rattle.measure.specs.Measure.{Minute, Meter, meter, minuteOf, pushed, pushes, rampPart, measuredBy, measuredOf, lowBy, rampTarget, testIn}
 use Rattle.measure.proofs.Laws.{place-next, places-kept}
 use Rattle.model.specs.Target.{rampOption}
-use Rattle.readings.specs.Readings.{orZero, averageOf}
+use Rattle.power.specs.Power.{orZero, averageOf}
 use Rattle.step_end.specs.StepEnd.{arrived, nextOf, stepAfter, isOver}
 use Rattle.steps.specs.Bytes.{intensityKind, lengthKind, lengthValue, targetKind, firstValue, secondValue, thirdValue}
 use Rattle.standing.specs.Standing.{sameStep, sameLength, sameTarget, onPlace, belowEnd, lapOk}

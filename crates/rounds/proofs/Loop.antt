@@ -13,7 +13,7 @@ use Rattle.model.specs.declared.Workout.{Workout}
 use Rattle.order.specs.Order.{playedLen, playedOf}
 use Rattle.events.specs.Events.{Event, Wrote, ftp}
 use Rattle.events.proofs.Laws.{wrote-none, wrote-then, one-at-most}
-use Rattle.readings.specs.Readings.{isSome, orZero}
+use Rattle.power.specs.Power.{isSome, orZero}
 use Rattle.state.specs.declared.Measured.{Measured}
 use Rattle.state.specs.declared.Core.{Core}
 use Rattle.state.specs.State.{untilEnd}

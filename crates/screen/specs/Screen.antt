@@ -17,11 +17,12 @@ use Rattle.model.specs.Target.{wattsAt, rampOption, bandOf}
 use Rattle.order.specs.declared.Played.{Played}
 use Rattle.order.specs.declared.PlayedOption.{PlayedOption}
 use Rattle.order.specs.Order.{noPlayed, nothing, playedOf, plannedFrom, hasUntimed}
-use Rattle.readings.specs.declared.ReadingOption.{ReadingOption}
-use Rattle.readings.specs.declared.ReadingOption.the-variants.{None, Some}
+use Rattle.power.specs.declared.ReadingOption.{ReadingOption}
+use Rattle.power.specs.declared.ReadingOption.the-variants.{None, Some}
 use Rattle.readings.specs.declared.Readings.{Readings}
 use Rattle.readings.specs.declared.ComplianceOption.the-variants as how
-use Rattle.readings.specs.Readings.{averageOf, readingOf, complianceOf}
+use Rattle.power.specs.Power.{averageOf}
+use Rattle.readings.specs.Readings.{readingOf, complianceOf}
 use Rattle.state.specs.declared.Lap.{Lap}
 use Rattle.state.specs.declared.Measured.{Measured}
 use Rattle.state.specs.declared.Core.{Core}

@@ -11,7 +11,8 @@ use Rattle.refusal.specs.declared.Refusal.{Refusal}
 use Rattle.refusal.specs.declared.Refusal.the-variants as refusals
 use Rattle.zones.specs.declared.TrainingProfile.{TrainingProfile}
 use Rattle.readings.specs.declared.Sample.{Sample}
-use Rattle.readings.specs.Readings.{flagSet, readingAt}
+use Rattle.power.specs.Power.{readingAt}
+use Rattle.readings.specs.Readings.{flagSet}
 use Rattle.sheet.specs.declared.Act.{Act}
 use Rattle.sheet.specs.declared.Act.the-variants.{Profile, Read, Ride, Skip, Extend}
 use Rattle.sheet.specs.declared.ActOption.{ActOption}
@@ -124,7 +125,3 @@ faultAnswer fault n = cond (ltb fault n) (refusedAt refusals.Act (Some fault)) a
 -- "Sheet: length 2 + 9n, n in range? 16. Each act well formed? 17."
 unfoldable pub checkOf : List ℕ → ActAnswer
 checkOf s = cond (sizeOk s) (faultAnswer (faultFrom s (countIn s) 0 (countIn s)) (countIn s)) (refusedAt refusals.SheetLength None)
-
--- The acts of a sheet that passes both.
-unfoldable pub actsOf : List ℕ → List Act
-actsOf s = actsFrom s (countIn s) 0 (countIn s)

@@ -15,8 +15,8 @@ use Rattle.order.specs.declared.Played.{Played}
 use Rattle.order.specs.Order.{playedOf, playedLen}
 use Rattle.validation.specs.Sound.{workoutAnswer}
 use Rattle.steps.specs.Bytes.{intensityKind, lengthKind, lengthValue, targetKind, firstValue, secondValue, thirdValue}
-use Rattle.readings.specs.declared.ReadingOption.{ReadingOption}
-use Rattle.readings.specs.declared.ReadingOption.the-variants.{None, Some}
+use Rattle.power.specs.declared.ReadingOption.{ReadingOption}
+use Rattle.power.specs.declared.ReadingOption.the-variants.{None, Some}
 use Rattle.readings.specs.declared.Readings.{Readings}
 use Rattle.state.specs.declared.Lap.{Lap}
 use Rattle.state.specs.declared.Summary.{Summary}

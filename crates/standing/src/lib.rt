@@ -13,7 +13,7 @@ use names::Name;
 use order::Played;
 use order::played_at;
 use order::played_len;
-use readings::ReadingOption;
+use power::ReadingOption;
 use readings::Readings;
 use refusal::Answer;
 use state::Core;

@@ -9,7 +9,7 @@ use Rattle.model.specs.Workout.{emptyWorkout}
 use Rattle.order.specs.declared.Played.{Played}
 use Rattle.order.specs.Order.{playedOf, playedLen}
 use Rattle.validation.specs.Sound.{workoutAnswer}
-use Rattle.readings.specs.declared.ReadingOption.the-variants.{None}
+use Rattle.power.specs.declared.ReadingOption.the-variants.{None}
 use Rattle.readings.specs.Readings.{noReadings}
 use Rattle.state.specs.declared.Measured.{Measured}
 use Rattle.state.specs.declared.Summary.{Summary}

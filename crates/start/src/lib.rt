@@ -8,7 +8,7 @@ use model::empty_workout;
 use order::Played;
 use order::played_at;
 use order::played_len;
-use readings::ReadingOption;
+use power::ReadingOption;
 use readings::no_readings;
 use refusal::Answer;
 use state::Core;

@@ -9,9 +9,9 @@ use model::Target;
 use model::Workout;
 use names::Name;
 use order::Played;
+use power::ReadingOption;
 use readings::Compliance;
 use readings::ComplianceOption;
-use readings::ReadingOption;
 use readings::Readings;
 use readings::Sample;
 

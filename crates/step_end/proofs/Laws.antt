@@ -7,7 +7,7 @@ use lib.ListN.{length}
 use Rattle.model.specs.declared.Workout.{Workout}
 use Rattle.order.specs.declared.PlayedOption.{PlayedOption}
 use Rattle.order.specs.Order.{playedOf}
-use Rattle.readings.specs.declared.ReadingOption.{ReadingOption}
+use Rattle.power.specs.declared.ReadingOption.{ReadingOption}
 use Rattle.events.specs.Events.{Wrote}
 use Rattle.events.proofs.Laws.{wrote-then}
 use Rattle.state.specs.declared.Core.{Core}

@@ -11,9 +11,9 @@ use Rattle.model.specs.declared.Workout.{Workout}
 use Rattle.model.specs.Target.{rampOption}
 use Rattle.order.specs.declared.PlayedOption.{PlayedOption}
 use Rattle.order.specs.Order.{playedOf}
-use Rattle.readings.specs.declared.ReadingOption.{ReadingOption}
-use Rattle.readings.specs.declared.ReadingOption.the-variants.{None, Some}
-use Rattle.readings.specs.Readings.{orZero, isSome}
+use Rattle.power.specs.declared.ReadingOption.{ReadingOption}
+use Rattle.power.specs.declared.ReadingOption.the-variants.{None, Some}
+use Rattle.power.specs.Power.{orZero, isSome}
 use Rattle.events.specs.Events.{Event, countdown, started, finished, ftp, eventsIf, Wrote}
 use Rattle.state.specs.declared.Summary.{Summary}
 use Rattle.state.specs.declared.Lap.{Lap}

@@ -18,7 +18,7 @@ use model::Length;
 use model::Workout;
 use order::PlayedOption;
 use order::played_at;
-use readings::ReadingOption;
+use power::ReadingOption;
 use state::Core;
 use state::Lap;
 use state::StepNow;

@@ -184,13 +184,13 @@ fn no_step(refusal: Refusal, next: Cursor) -> StepRead
 pub fn read_step(bytes: &[u8], cursor: Cursor) -> StepRead
     ensures { λ r. ⌜ r ≡ stepAt (now (bytes .entry)) (cursor .at) ⌝ }
 {
-    let Taken::Bytes(from, _) = cursor.take(bytes, 15) else {
+    let Taken::Bytes(from, _) = reader::next_bytes(bytes, cursor, 15) else {
         return no_step(Refusal::Length, cursor);
     };
     let Fixed::Some(intensity, length, target) = fixed_at(bytes, from) else {
         return no_step(Refusal::Field, cursor);
     };
-    let read = cursor::read_name(bytes, Cursor { at: from + 14 });
+    let read = reader::next_name(bytes, Cursor { at: from + 14 });
     let answer = read.answer;
     let note = read.name;
     let next = read.next;

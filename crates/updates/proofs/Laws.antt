@@ -13,7 +13,8 @@ use Rattle.model.specs.declared.Workout.{Workout}
 use Rattle.order.specs.Order.{playedLen}
 use Rattle.events.proofs.Laws.{wrote-none}
 use Rattle.readings.specs.declared.Sample.{Sample}
-use Rattle.readings.specs.Readings.{taken, added}
+use Rattle.power.specs.Power.{added}
+use Rattle.readings.specs.Readings.{taken}
 use Rattle.state.specs.declared.Core.{Core}
 use Rattle.state.specs.State.{readCore}
 use Rattle.state.specs.declared.Player.{Player}
@@ -24,51 +25,29 @@ use Rattle.rounds.specs.Rounds.{riding, rounds}
 use Rattle.rounds.specs.Contracted.{Rides, Ridden}
 use Rattle.standing.specs.Standing.{onPlace, cadenceIn}
 use Rattle.standing.specs.Facts.{Within, Stands}
-use Rattle.updates.specs.declared.Update.{Update}
-use Rattle.updates.specs.Updates.{Called, Answers, Supposes, withCore, addNow, eventlessUpdate, eventless, playerOf, totalled, begun, rideBy, rodeTo, rideNow, skipTo, skipNow}
-
--- a call without events
-pub eventless-answers : (ks vs : List ℕ) (p : Player) (u : Update) (o : Called) (a : Answer) → u ≡ eventlessUpdate a p → eventless a p ≡ o → Answers ks vs ks vs u o
-eventless-answers ks vs p u o a e f =
-    subst (λ (o : Called). Answers ks vs ks vs u o) f
-    (subst (λ (u : Update). Answers ks vs ks vs u (eventless a p)) (sym e) (record { answer = refl; player = refl; parts = refl; wrote = wrote-none ks vs 0 }))
-
-pub answers-is : {ks vs ks' vs' : List ℕ} {u : Update} {o o' : Called} → o ≡ o' → Answers ks vs ks' vs' u o → Answers ks vs ks' vs' u o'
-answers-is {ks} {vs} {ks'} {vs'} {u} e a = subst (λ (k : Called). Answers ks vs ks' vs' u k) e a
+use Rattle.standing.proofs.Amounts.{amounts-within}
+use Rattle.outcomes.specs.declared.Update.{Update}
+use Rattle.outcomes.proofs.Laws.{answers-is, eventless-answers}
+use Rattle.outcomes.specs.Outcomes.{Called, Answers, withCore, eventlessUpdate, eventless, playerOf, totalled}
+use Rattle.updates.specs.Updates.{Supposes, addNow, begun, rideBy, rodeTo, rideNow, skipTo, skipNow}
 
 -- the totals grow by what is then still to be ridden
 pub totalled-stands : (w : Workout) (c : Core) (ms mm : ℕ) → Stands 0 0 w c → c .«total_ms» .0 + ms ≤ 604800000 → c .«total_mm» .0 + mm ≤ 7000000000
     → Stands ms mm w (totalled ms mm c)
-unfolding onPlace
 totalled-stands w c ms mm s a b =
     let h : Within 0 0 w c = s .within in
     record {
       within =
-          record {
-            valid = h .valid;
-            steps = h .steps;
-            summary-steps = h .summary-steps;
-            steps-done = h .steps-done;
-            skipped = h .skipped;
-            position = h .position;
-            done = h .done;
-            finished = h .finished;
-            step = h .step;
-            tallies = h .tallies;
+          amounts-within ms mm (c .«total_ms» .0 + ms) (c .«total_mm» .0 + mm) (c .lap) w c h
+          (record {
             targeted = omega (arith, h .targeted);
             step-ms = omega (arith, h .step-ms);
             step-mm = omega (arith, h .step-mm);
-            energy = h .energy;
             test-ms = omega (arith, h .test-ms);
             low = omega (arith, h .low);
-            rest = h .rest;
-            place = h .place;
-            long = h .long;
-            next = h .next;
-            cadence = h .cadence;
             total-ms = a;
             total-mm = b;
-          };
+          });
       lap = s .lap;
     }
 

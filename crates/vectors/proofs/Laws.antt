@@ -7,7 +7,7 @@ use native.Mathlib.Numerals.{add-one}
 use native.Mathlib.Omega.{arith}
 use lib.Dec.{eqb}
 use Rattle.compare.specs.Input.{wordAt}
-use Rattle.compare_player.specs.Calls.{anyWord}
+use Rattle.compare_replay.specs.Replays.{anyWord}
 use Rattle.vectors.specs.Replays.{Within, agrees, stepOf, steps}
 use Rattle.vectors.specs.declared.Entry.{Entry}
 use Rattle.vectors.specs.declared.Entry.the-variants.{Asked}

@@ -7,7 +7,7 @@ use lib.Dec.{eqb, ltb, leb}
 use lib.ListN.{length}
 use Rattle.le.specs.Le.{numberOf, part}
 use Rattle.compare.specs.Input.{wordAt}
-use Rattle.compare_player.specs.Calls.{anyWord}
+use Rattle.compare_replay.specs.Replays.{anyWord}
 use Rattle.vectors.specs.declared.Entry.{Entry}
 use Rattle.vectors.specs.declared.Entry.the-variants.{Asked, Cut, End}
 use Rattle.vectors.specs.declared.Replay.{Replay}

@@ -1,8 +1,9 @@
-// Replays a fixed list of the Rust's answers, data/answers and data/players, which tests/oracle/vectors makes, and writes for
-// each question how many answers were compared and how many differ.
+// Replays the fixed lists of the Rust's answers, data/answers, data/players and data/replays, which tests/oracle/vectors makes, and
+// writes for each question how many answers were compared and how many differ.
 ghost use mathlib.Core.Path.{_≡_};
 ghost use lib.ListN.{length};
 ghost use Prim.Native.Nat.{_+_, _*_, _≤_};
+ghost use Rattle.io.specs.Counts.{Counts};
 ghost use Rattle.vectors.specs.Replays.{entryAt, Within, agrees, more, compared, stepOf, replayOf};
 use libc::STDOUT_FILENO;
 
@@ -60,7 +61,7 @@ fn all_agree(question: u32, input: &[u8], answer: &[u8], words: u32) -> bool
     let mut same = true;
     let mut i = 0;
     while i < words {
-        same = same & (compare_player::any_word(question, input, i) == compare::word_at(answer, i));
+        same = same & (compare_replay::any_word(question, input, i) == compare::word_at(answer, i));
         i += 1;
     }
     same
@@ -155,17 +156,24 @@ fn report(question: u32, name: &[u8], list: &[u8]) -> Replay
     found
 }
 
-fn main() {
-    let path = b"answers";
+// No contract can say what is read. A file that is missing or too long shows in the counts.
+fn read_list(path: &[u8], bytes: &mut [u8; 524288]) -> usize
+    ensures { λ r. ⌜ Counts r (now (bytes .exit)) ⌝ }
+{
     let file = os::open_read(path);
     if file < 0 {
         os::fail(path);
-        return;
+        return 0;
     }
-    let mut bytes = [0u8; 524288];
-    let size = io::read_full(file, &mut bytes);
+    let size = io::read_full(file, bytes);
     libc::close(file);
-    let list = &bytes[..size];
+    size
+}
+
+fn main() {
+    let mut bytes = [0u8; 524288];
+    let answers = read_list(b"answers", &mut bytes);
+    let list = &bytes[..answers];
     report(0, b"percent", list);
     report(1, b"power_zone", list);
     report(2, b"heart_zone", list);
@@ -179,14 +187,8 @@ fn main() {
     report(10, b"order", list);
     report(11, b"file", list);
     report(12, b"written", list);
-    let players = b"players";
-    let second = os::open_read(players);
-    if second < 0 {
-        os::fail(players);
-        return;
-    }
-    let mut more = [0u8; 524288];
-    let more_size = io::read_full(second, &mut more);
-    libc::close(second);
-    report(13, b"player", &more[..more_size]);
+    let players = read_list(b"players", &mut bytes);
+    report(13, b"player", &bytes[..players]);
+    let replays = read_list(b"replays", &mut bytes);
+    report(14, b"replay", &bytes[..replays]);
 }

@@ -9,7 +9,8 @@ use Rattle.blocks.specs.Blocks.{blocksSound, allApart, repeats}
 use Rattle.order.specs.Order.{run, runs, blockAt, order, playedLen, nth, stepAt, playedOf}
 use Rattle.form.specs.Form.{formOk, stepSlots, blockSlots, isNoStep}
 use Rattle.validation.specs.Sound.{stepOk, validAnswer, workoutAnswer}
-use Rattle.readings.specs.Readings.{window, meanBy, average, averageOf, added, taken, complianceOf}
+use Rattle.power.specs.Power.{window, meanBy, average, averageOf, added}
+use Rattle.readings.specs.Readings.{taken, complianceOf}
 use Rattle.state.specs.State.{tallied, shareOf, untilEnd, readCore}
 use Rattle.measure.specs.Measure.{measuredOf, twentyFtp, resultOf}
 use Rattle.step_end.specs.StepEnd.{countdownsTo, isOver, arrived, nextOf}

@@ -2,7 +2,7 @@
 use mathlib.Core.Path.{_∙_, ap}
 use borrow.Author.Needs.{needs}
 use Rattle.player.specs.Calls.{readOf}
-use Rattle.updates.specs.declared.Update.{Update}
+use Rattle.outcomes.specs.declared.Update.{Update}
 use Rattle.compare_player.specs.Calls.{turnOf}
 use Rattle.compare_player.proofs.read.Statement.{statement}
 use Rattle.compare_player.proofs.read.Tie as tie

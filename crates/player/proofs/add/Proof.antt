@@ -1,5 +1,5 @@
 -- `add`: one case for each question that fails, and one where none does.
-use Rattle.updates.proofs.Laws.{answers-is, eventless-answers}
+use Rattle.outcomes.proofs.Laws.{answers-is, eventless-answers}
 use Rattle.player.proofs.Laws.{update-passed, add-20, add-10, add-11, add-refused, add-taken}
 use Rattle.standing.proofs.Known.{known}
 use Rattle.refusal.specs.declared.Refusal.the-variants as refusals

@@ -1,7 +1,7 @@
 -- `skip`: one case for each question that fails, and one where none does.
 use denote.Ref.{now}
 use lib.ListN.{length}
-use Rattle.updates.proofs.Laws.{answers-is, eventless-answers}
+use Rattle.outcomes.proofs.Laws.{answers-is, eventless-answers}
 use Rattle.player.proofs.Laws.{few-kinds, few-values, enough-places, skip-20, skip-14, skip-taken, skip-supposes}
 use Rattle.refusal.specs.declared.Refusal.the-variants as refusals
 use Rattle.refusal.specs.declared.Answer.the-variants.{Refused}

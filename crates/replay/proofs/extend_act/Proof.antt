@@ -1,7 +1,7 @@
 -- `extend_act`: done does nothing; else question 15.
 use Rattle.replay.specs.Acts.{eventlessAct, ofExtended}
 use Rattle.replay.specs.declared.Acted.{Acted}
-use Rattle.updates.specs.Updates.{extendCore}
+use Rattle.outcomes.specs.Outcomes.{extendCore}
 use Rattle.refusal.specs.declared.Answer.the-variants.{Accepted}
 use mathlib.Core.Bool.{Bool, cond}
 use mathlib.Core.Path.{sym, ap, _∙_}

@@ -6,7 +6,7 @@ use Prim.Native.Nat.{_-_}
 use native.Mathlib.Omega.{arith}
 use lib.ListN.{length}
 use denote.Ref.{now}
-use Rattle.updates.specs.Updates.{playerOf}
+use Rattle.outcomes.specs.Outcomes.{playerOf}
 use Rattle.standing.proofs.Known.{known}
 use Rattle.rounds.specs.Rounds.{riding}
 use Rattle.rounds.proofs.Turns.{turn-fits, end-fits, round-ended, round-left}

@@ -1,3 +1,4 @@
+-- `distance_step`: question 20, then the step's kind of length.
 use Rattle.reports.specs.Reports.{distanceOf}
 use mathlib.Core.Path.{sym, _∙_}
 use borrow.Author.Needs.{needs}

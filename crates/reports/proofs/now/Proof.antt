@@ -1,3 +1,4 @@
+-- `now`: questions 20 and 10, then what is shown.
 use Rattle.reports.proofs.Laws.{report-fits}
 use Rattle.reports.specs.Reports.{nowOf}
 use mathlib.Core.Path.{sym, _∙_}

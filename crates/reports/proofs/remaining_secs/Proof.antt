@@ -1,3 +1,4 @@
+-- `remaining_secs`: question 20, then the seconds.
 use Rattle.reports.proofs.Laws.{report-fits}
 use Rattle.reports.specs.Reports.{remainingSecs}
 use mathlib.Core.Path.{sym, _∙_}

@@ -1,3 +1,4 @@
+-- `summary`: question 20, then the summary.
 use Rattle.reports.specs.Reports.{summaryOf}
 use mathlib.Core.Path.{sym, _∙_}
 use borrow.Author.Needs.{needs}

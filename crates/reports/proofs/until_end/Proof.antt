@@ -1,3 +1,4 @@
+-- `until_end`: questions 20 and 12, then the part.
 use Rattle.common.proofs.Tests.{and-left, and-right}
 use borrow.Author.Tests.{leb-true}
 use lib.Dec.{leb}

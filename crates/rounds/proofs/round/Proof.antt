@@ -1,3 +1,4 @@
+-- `round`: the part until the step's end, then the end, if it has come.
 use denote.Ref.{now}
 -- `round`: its two parts make the round of the definition (Turns).
 use mathlib.Core.Path.{sym, _∙_}

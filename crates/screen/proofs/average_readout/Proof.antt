@@ -1,3 +1,4 @@
+-- `average_readout`: the mean power of a `Twenty` test so far.
 use Prim.Native.Nat.{_<_}
 use native.Mathlib.Omega.{arith}
 use borrow.Author.Tests.{le-leb, lt-leb}

@@ -1,3 +1,4 @@
+-- `band_now`: the step's band, and none once the workout is done.
 use Rattle.screen.specs.Screen.{shownBand}
 use borrow.Author.Needs.{needs}
 use Rattle.screen.proofs.band_now.Statement.{statement}

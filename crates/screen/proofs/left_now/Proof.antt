@@ -1,3 +1,4 @@
+-- `left_now`: by the step's kind of length; an open step has nothing left to show.
 use Rattle.screen.specs.Screen.{shownOf}
 use borrow.Author.Needs.{needs}
 use Rattle.screen.proofs.left_now.Statement.{statement}

@@ -1,3 +1,4 @@
+-- `minute_readout`: the best minute of a `Ramp` test so far.
 use borrow.Author.Needs.{needs}
 use Rattle.screen.proofs.minute_readout.Statement.{statement}
 use Rattle.screen.proofs.minute_readout.Tie as tie

@@ -1,3 +1,4 @@
+-- `next_now`: the step after the one on now, if there is one.
 use Rattle.screen.specs.Screen.{shownNext}
 use borrow.Author.Needs.{needs}
 use Rattle.screen.proofs.next_now.Statement.{statement}

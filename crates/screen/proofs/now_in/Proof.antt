@@ -1,3 +1,4 @@
+-- `now_in`: each field of `Now` by its own function.
 use Rattle.screen.specs.Screen.{nowIn}
 use borrow.Author.Needs.{needs}
 use Rattle.screen.proofs.now_in.Statement.{statement}

@@ -1,3 +1,4 @@
+-- `ramp_now`: the watts of a ramp at the step's time.
 use mathlib.Core.Path.{sym, _∙_}
 use Rattle.screen.specs.Screen.{shownRamp}
 use borrow.Author.Needs.{needs}

@@ -1,3 +1,4 @@
+-- `reading_now`: the reading that the band is checked by.
 use borrow.Author.Needs.{needs}
 use Rattle.screen.proofs.reading_now.Statement.{statement}
 use Rattle.screen.proofs.reading_now.Tie as tie

@@ -1,3 +1,4 @@
+-- `readout`: each test's running number.
 use Rattle.screen.specs.Screen.{readoutBy}
 use borrow.Author.Needs.{needs}
 use Rattle.screen.proofs.readout.Statement.{statement}

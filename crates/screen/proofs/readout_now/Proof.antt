@@ -1,3 +1,4 @@
+-- `readout_now`: the running number in a test step that isn't done.
 use Rattle.screen.specs.Screen.{shownReadout}
 use borrow.Author.Needs.{needs}
 use Rattle.screen.proofs.readout_now.Statement.{statement}

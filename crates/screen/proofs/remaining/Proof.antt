@@ -1,3 +1,4 @@
+-- `remaining`: none where a step ahead isn't timed or the workout is done.
 use mathlib.Core.Bool.{Bool, _||_}
 use mathlib.Core.Path.{sym, ap, _∙_}
 use Rattle.screen.specs.Screen.{remainingOf}

@@ -1,3 +1,4 @@
+-- `remaining_in`: what is left of the step on now, with the steps ahead.
 use borrow.Author.Needs.{needs}
 use Rattle.screen.proofs.remaining_in.Statement.{statement}
 use Rattle.screen.proofs.remaining_in.Tie as tie

@@ -1,3 +1,4 @@
+-- `shown_distance`: metres left of a distance step, and how far through it the rider is.
 use Rattle.screen.specs.Screen.{shownOf}
 use borrow.Author.Needs.{needs}
 use Rattle.screen.proofs.shown_distance.Statement.{statement}

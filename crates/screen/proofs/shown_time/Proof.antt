@@ -1,3 +1,4 @@
+-- `shown_time`: seconds left of a timed step, and how far through it the rider is.
 use Rattle.screen.specs.Screen.{shownOf}
 use borrow.Author.Needs.{needs}
 use Rattle.screen.proofs.shown_time.Statement.{statement}

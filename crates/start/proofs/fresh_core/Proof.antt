@@ -1,3 +1,4 @@
+-- `fresh_core`: the first step on, all amounts 0.
 use borrow.Author.Needs.{needs}
 use Rattle.start.proofs.fresh_core.Statement.{statement}
 use Rattle.start.proofs.fresh_core.Tie as tie

@@ -1,3 +1,4 @@
+-- `fresh_player`: nothing ridden, the first step on.
 use Rattle.start.specs.Start.{fresh}
 use borrow.Author.Needs.{needs}
 use Rattle.start.proofs.fresh_player.Statement.{statement}

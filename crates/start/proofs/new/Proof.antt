@@ -1,3 +1,4 @@
+-- `new`: questions 5 to 9; refused, a player of the empty workout.
 use Rattle.validation.proofs.Passes.{passes}
 use Rattle.start.proofs.Laws.{empty-plays}
 use Rattle.start.specs.Start.{newOf}

@@ -11,8 +11,8 @@ use Rattle.steps.proofs.Laws.{readAs, step-end, step-bad, step-refused,
 use Rattle.steps.proofs.read_step.Statement.{statement}
 use Rattle.steps.proofs.read_step.Tie as tie
 
-take-requires : tie.Need-take-requires
-take-requires c κs = search needs
+next-bytes-requires : tie.Need-next-bytes-requires
+next-bytes-requires c κs = search needs
 
 enum-known-from : tie.Need-enum-known-from
 enum-known-from c = search needs
@@ -24,7 +24,7 @@ no-step-requires : tie.Need-no-step-requires
 no-step-requires c κs = search needs
 
 returns : tie.Need-returns
-returns c = let a = c .before .before .before .before .before .args in c .no-step .ensures ∙ step-end (now (a .bytes)) (a .cursor .at) (sym (c .before .before .before .take .ensures) ∙ c .before .enum-told .given .1)
+returns c = let a = c .before .before .before .before .before .args in c .no-step .ensures ∙ step-end (now (a .bytes)) (a .cursor .at) (sym (c .before .before .before .next-bytes .ensures) ∙ c .before .enum-told .given .1)
 
 fixed-at-requires : tie.Need-fixed-at-requires
 fixed-at-requires c κs = let a = c .before .before .before .before .before .args in
@@ -32,7 +32,7 @@ fixed-at-requires c κs = let a = c .before .before .before .before .before .arg
     let at = a .cursor .at in
     let from = c .before .from .given .0 .0 in
     let past = c .before .from .given .0 .1 .0 in
-    let there = taken-given s at 15 from past (sym (c .before .before .before .take .ensures) ∙ c .before .from .given .1) in
+    let there = taken-given s at 15 from past (sym (c .before .before .before .next-bytes .ensures) ∙ c .before .from .given .1) in
     omega (arith, there .within, there .place, length-drop at s)
 
 enum-known-intensity : tie.Need-enum-known-intensity
@@ -50,7 +50,7 @@ returns-2 c = let a = c .before .before .before .before .before .before .before 
     let at = a .cursor .at in
     let from = c .before .before .before .before .before .from .given .0 .0 in
     let past = c .before .before .before .before .before .from .given .0 .1 .0 in
-    let there = taken-given s at 15 from past (sym (c .before .before .before .before .before .before .before .take .ensures) ∙ c .before .before .before .before .before .from .given .1) in
+    let there = taken-given s at 15 from past (sym (c .before .before .before .before .before .before .before .next-bytes .ensures) ∙ c .before .before .before .before .before .from .given .1) in
     c .no-step2 .ensures ∙ step-bad s at from past there (sym (c .before .before .before .fixed-at .ensures) ∙ c .before .enum-told2 .given .1)
 
 add-t16 : tie.Need-add-t16
@@ -59,11 +59,11 @@ add-t16 c = let a = c .before .before .before .before .before .before .before .b
     let at = a .cursor .at in
     let from = c .before .before .before .before .before .from .given .0 .0 in
     let past = c .before .before .before .before .before .from .given .0 .1 .0 in
-    let there = taken-given s at 15 from past (sym (c .before .before .before .before .before .before .before .take .ensures) ∙ c .before .before .before .before .before .from .given .1) in
+    let there = taken-given s at 15 from past (sym (c .before .before .before .before .before .before .before .next-bytes .ensures) ∙ c .before .before .before .before .before .from .given .1) in
     omega (arith, there .within, there .place, length-drop at s)
 
-read-name-requires : tie.Need-read-name-requires
-read-name-requires c κs = search needs
+next-name-requires : tie.Need-next-name-requires
+next-name-requires c κs = search needs
 
 enum-known-answer : tie.Need-enum-known-answer
 enum-known-answer c = search needs
@@ -80,9 +80,9 @@ returns-3 c = let a = c .before .before .before .before .before .before .before 
     let at = a .cursor .at in
     let from = c .before .before .before .before .before .before .before .before .before .before .before .before .from .given .0 .0 in
     let past = c .before .before .before .before .before .before .before .before .before .before .before .before .from .given .0 .1 .0 in
-    let there = taken-given s at 15 from past (sym (c .before .before .before .before .before .before .before .before .before .before .before .before .before .before .take .ensures) ∙ c .before .before .before .before .before .before .before .before .before .before .before .before .from .given .1) in
+    let there = taken-given s at 15 from past (sym (c .before .before .before .before .before .before .before .before .before .before .before .before .before .before .next-bytes .ensures) ∙ c .before .before .before .before .before .before .before .before .before .before .before .before .from .given .1) in
     let f = sym (c .before .before .before .before .before .before .before .before .before .before .fixed-at .ensures) ∙ c .before .before .before .before .before .before .before .before .intensity .given .1 in
-    c .no-step3 .ensures ∙ step-refused s at from past there (c .before .before .before .before .before .before .before .before .intensity .given .0 .0) (c .before .before .before .before .before .before .before .before .intensity .given .0 .1 .0) (c .before .before .before .before .before .before .before .before .intensity .given .0 .1 .1 .0) f (c .before .before .answer .given .0 .0) (ap (λ (n : NameRead). n .answer) (sym (c .before .before .before .before .before .before .read-name .ensures)) ∙ c .before .before .answer .given .1)
+    c .no-step3 .ensures ∙ step-refused s at from past there (c .before .before .before .before .before .before .before .before .intensity .given .0 .0) (c .before .before .before .before .before .before .before .before .intensity .given .0 .1 .0) (c .before .before .before .before .before .before .before .before .intensity .given .0 .1 .1 .0) f (c .before .before .answer .given .0 .0) (ap (λ (n : NameRead). n .answer) (sym (c .before .before .before .before .before .before .next-name .ensures)) ∙ c .before .before .answer .given .1)
 
 returns-4 : tie.Need-returns-4
 returns-4 c = let a = c .before .before .before .before .before .before .before .before .before .before .before .before .before .before .args in
@@ -90,19 +90,19 @@ returns-4 c = let a = c .before .before .before .before .before .before .before 
     let at = a .cursor .at in
     let from = c .before .before .before .before .before .before .before .before .before .before .from .given .0 .0 in
     let past = c .before .before .before .before .before .before .before .before .before .before .from .given .0 .1 .0 in
-    let there = taken-given s at 15 from past (sym (c .before .before .before .before .before .before .before .before .before .before .before .before .take .ensures) ∙ c .before .before .before .before .before .before .before .before .before .before .from .given .1) in
+    let there = taken-given s at 15 from past (sym (c .before .before .before .before .before .before .before .before .before .before .before .before .next-bytes .ensures) ∙ c .before .before .before .before .before .before .before .before .before .before .from .given .1) in
     let f = sym (c .before .before .before .before .before .before .before .before .fixed-at .ensures) ∙ c .before .before .before .before .before .before .intensity .given .1 in
     let i = c .before .before .before .before .before .before .intensity .given .0 .0 in
     let l = c .before .before .before .before .before .before .intensity .given .0 .1 .0 in
     let t = c .before .before .before .before .before .before .intensity .given .0 .1 .1 .0 in
-    ap (λ (n : NameRead). readAs (stepOf i l t (n .name)) (n .next .at)) (c .before .before .before .before .read-name .ensures)
-    ∙ step-read s at from past there i l t f (ap (λ (n : NameRead). n .answer) (sym (c .before .before .before .before .read-name .ensures)) ∙ c .enum-told3 .given .1)
+    ap (λ (n : NameRead). readAs (stepOf i l t (n .name)) (n .next .at)) (c .before .before .before .before .next-name .ensures)
+    ∙ step-read s at from past there i l t f (ap (λ (n : NameRead). n .answer) (sym (c .before .before .before .before .next-name .ensures)) ∙ c .enum-told3 .given .1)
 
 pub read-step-spec : {M : Type 1} → statement M
 read-step-spec =
     tie.close
     (tie.spec
-    take-requires
+    next-bytes-requires
     enum-known-from
     enum-told
     no-step-requires
@@ -113,7 +113,7 @@ read-step-spec =
     no-step-requires-2
     returns-2
     add-t16
-    read-name-requires
+    next-name-requires
     enum-known-answer
     no-step-requires-3
     enum-told-3

@@ -1,5 +1,6 @@
 -- `add_now`: 0 ms does nothing; else the reading is taken, and the core still stands.
-use Rattle.updates.proofs.Laws.{answers-is, eventless-answers, add-idle, add-rode, read-supposes}
+use Rattle.outcomes.proofs.Laws.{answers-is, eventless-answers}
+use Rattle.updates.proofs.Laws.{add-idle, add-rode, read-supposes}
 use Rattle.refusal.specs.declared.Answer.the-variants.{Accepted}
 use borrow.Author.Needs.{needs}
 use Rattle.updates.proofs.add_now.Statement.{statement}

@@ -1,5 +1,6 @@
 -- `ride_now`: 0 ms does nothing; else the loop on the core and its minute.
-use Rattle.updates.proofs.Laws.{eventless-answers, ride-idle, ride-made}
+use Rattle.outcomes.proofs.Laws.{eventless-answers}
+use Rattle.updates.proofs.Laws.{ride-idle, ride-made}
 use Rattle.refusal.specs.declared.Answer.the-variants.{Accepted}
 use lib.ListN.{length}
 use mathlib.Core.Path.{_≡_}

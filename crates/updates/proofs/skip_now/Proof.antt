@@ -1,5 +1,6 @@
 -- `skip_now`: done does nothing; else the step ends.
-use Rattle.updates.proofs.Laws.{eventless-answers, skip-idle, skip-made}
+use Rattle.outcomes.proofs.Laws.{eventless-answers}
+use Rattle.updates.proofs.Laws.{skip-idle, skip-made}
 use Rattle.rounds.proofs.One.{next-fits}
 use Rattle.refusal.specs.declared.Answer.the-variants.{Accepted}
 use native.Mathlib.Omega.{arith}

@@ -1,0 +1,45 @@
+//! A line of the table, and the clock.
+use std::time::Instant;
+
+/// What was timed, nanoseconds of it on each side, and what it is to stay within: a ratio, nanoseconds of the Rattle, or nothing.
+pub struct Line {
+    pub what: String,
+    pub rattle: f64,
+    pub rust: f64,
+    pub bar: &'static str,
+}
+
+impl Line {
+    pub fn print(&self) {
+        let ratio = self.rattle / self.rust;
+        let line = format!("{:56} {:>9.0} {:>9.0} {ratio:>6.3}  {}", self.what, self.rattle, self.rust, self.bar);
+        println!("{}", line.trim_end());
+    }
+}
+
+pub fn head() {
+    println!("{:56} {:>9} {:>9} {:>6}  bar", "least times", "Rattle ns", "Rust ns", "ratio");
+}
+
+/// Nanoseconds of each call, the least over the rounds; in a round each is made `calls` times, one after the other.
+pub fn least<const N: usize>(rounds: u32, calls: u32, mut made: [&mut dyn FnMut(); N]) -> [f64; N] {
+    let mut least = [f64::MAX; N];
+    for _ in 0..rounds {
+        for (least, call) in least.iter_mut().zip(&mut made) {
+            let start = Instant::now();
+            for _ in 0..calls {
+                call();
+            }
+            *least = least.min(start.elapsed().as_nanos() as f64 / f64::from(calls));
+        }
+    }
+    least
+}
+
+/// Reading and writing by both sides. Nothing that was read is handed over from outside, so writing is timed behind a reading, and the
+/// reading taken off. The calls: the Rattle and the Rust reading, the Rattle and the Rust reading and writing.
+pub fn reading_and_writing(names: [&str; 2], bar: &'static str, calls: u32, made: [&mut dyn FnMut(); 4]) -> Vec<Line> {
+    let [rattle, rust, rattle_both, rust_both] = least(3_000, calls, made);
+    let line = |what: &str, rattle, rust| Line { what: what.to_string(), rattle, rust, bar };
+    vec![line(names[0], rattle, rust), line(names[1], rattle_both - rattle, rust_both - rust)]
+}
