@@ -2,7 +2,7 @@
 use mathlib.Core.Path.{_≡_, refl, sym, ap, ap₂, _∙_}
 use mathlib.Core.List.{List, [], _∷_, _++_, append-assoc}
 use Prim.Native.Nat.{ℕ, zero, suc, _+_, _*_, _/_, _%_, _^_, _<_, _≤_}
-use native.Mathlib.Nat.{pow-suc, mul-comm, mul-assoc, suc-add, div-div-eq-div-mul, div-one, zero-add, one-le-pow, mod-eq-of-lt, mod-lt, add-zero}
+use native.Mathlib.Nat.{pow-suc, mul-comm, mul-assoc, suc-add, div-div-eq-div-mul, div-one, zero-add, one-le-pow, mod-eq-of-lt, add-zero}
 use native.Mathlib.Numerals.{add-one}
 use native.Mathlib.Omega.{arith}
 use lib.Arith.{mod-mul}
@@ -17,11 +17,6 @@ use Rattle.le.specs.Le.{numberOf, bytesOf, part, written, Bytes}
 pub bytes : (s : List ℕ) → ((i : ℕ) → getD s i 0 < 256) → Bytes s
 bytes [] h = tt
 bytes (b ∷ bs) h = (h 0, bytes bs (λ i. h (suc i)))
-
--- two lists of bytes joined are one
-pub bytes-append : (a b : List ℕ) → Bytes a → Bytes b → Bytes (a ++ b)
-bytes-append [] b ha hb = hb
-bytes-append (x ∷ a) b ha hb = (ha .0, bytes-append a b (ha .1) hb)
 
 -- the start of a list of bytes is one
 pub bytes-take : (k : ℕ) (s : List ℕ) → Bytes s → Bytes (take k s)
@@ -38,12 +33,6 @@ bytes-drop (suc k) (b ∷ s) h = bytes-drop k s (h .1)
 -- a part of a list of bytes is one
 pub bytes-part : (s : List ℕ) (at k : ℕ) → Bytes s → Bytes (part s at k)
 bytes-part s at k h = bytes-take k (drop at s) (bytes-drop at s h)
-
--- the bytes of a number are bytes
-pub bytes-bytes : (k v : ℕ) → Bytes (bytesOf k v)
-unfolding bytesOf
-bytes-bytes zero v = tt
-bytes-bytes (suc k) v = (mod-lt v (lit< tt), bytes-bytes k (v / 256))
 
 -- Numbers and their bytes.
 

@@ -25,7 +25,7 @@ pub struct Update {
     pub parts: usize,
 }
 
-// What a touch gives; `extended` is player.rs's own yes or no.
+// What `extend` gives; `extended` is player.rs's own yes or no.
 pub struct Extended {
     pub answer: Answer,
     pub player: Player,
