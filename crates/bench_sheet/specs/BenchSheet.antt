@@ -30,7 +30,7 @@ use Rattle.power.specs.declared.ReadingOption.the-variants.{None, Some}
 use Rattle.readings.specs.declared.Sample.{Sample}
 use Rattle.power.specs.Power.{added, averageOf}
 use Rattle.readings.specs.Readings.{noReadings}
-use Rattle.events.specs.Events.{Event, countdown, started}
+use Rattle.events.specs.Events.{countdown, started}
 use Rattle.state.specs.declared.Player.{Player}
 use Rattle.start.specs.Start.{newOf}
 use Rattle.outcomes.specs.Outcomes.{Called}

@@ -1,5 +1,5 @@
 -- Document 01, 'Workout file' and 'The questions, in order': the file's grammar on the list of its bytes, read left to right.
-use mathlib.Core.Bool.{Bool, true, false, cond, _&&_}
+use mathlib.Core.Bool.{Bool, true, false, _&&_}
 use mathlib.Core.List.{List, [], _∷_}
 use Prim.Native.Nat.{ℕ, _+_, _-_}
 use lib.Dec.{leb, eqb}

@@ -1,5 +1,5 @@
 -- Document 01, 'Workout file': the bytes that a workout is written as, and what the writer answers.
-use mathlib.Core.Bool.{Bool, true, false, cond}
+use mathlib.Core.Bool.{cond}
 use mathlib.Core.List.{List, [], _∷_, _++_, flatMap}
 use Prim.Native.Nat.{ℕ}
 use lib.Dec.{leb}

@@ -1,8 +1,8 @@
 -- history.rs, `decode`. Document 01, 'Ride record': "read as its `decode` does: version 1 or more, body length at least 66, later bytes
 -- and unknown flags passed over".
-use mathlib.Core.Bool.{Bool, true, false, cond, _&&_}
+use mathlib.Core.Bool.{Bool, cond, _&&_}
 use mathlib.Core.List.{List}
-use Prim.Native.Nat.{ℕ, _+_, _/_, _%_}
+use Prim.Native.Nat.{ℕ, _+_}
 use lib.Dec.{leb, eqb}
 use lib.ListN.{length, getD, take}
 use Rattle.le.specs.Le.{numberOf, part}

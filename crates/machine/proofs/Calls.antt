@@ -28,7 +28,6 @@ use Rattle.state.specs.State.{readCore}
 use Rattle.step_end.specs.StepEnd.{nextOf}
 use Rattle.rounds.specs.Rounds.{Riding, riding, Rode, ridingOf, rounds}
 use Rattle.standing.specs.Standing.{standingOf, cadenceIn}
-use Rattle.outcomes.specs.declared.Update.{Update}
 use Rattle.player.specs.Calls as player
 use Rattle.outcomes.specs.Outcomes.{Called, eventless, playerOf, withCore, totalled, notExtended, longerCore, notLonger, extendedBy, longerBy, extendCore, extendBy}
 use Rattle.updates.specs.Updates.{rideBy, rideNow, skipTo, skipNow}

@@ -9,7 +9,6 @@ use Rattle.zones.specs.declared.TrainingProfile.{TrainingProfile}
 use Rattle.zones.specs.Zones.{profileOk}
 use Rattle.model.specs.declared.Workout.{Workout}
 use Rattle.state.specs.declared.Summary.{Summary}
-use Rattle.standing.specs.Standing.{standingOf}
 use Rattle.start.specs.Start.{newOf}
 use Rattle.history.specs.Record.{recordOf, recordBytes}
 use Rattle.machine.specs.Machine.{summaryOf}
@@ -17,7 +16,7 @@ use Rattle.machine.specs.Cutting.{Call, CutCall, uncut, AllWellCut, alon
 use Rattle.machine.specs.Runs.{run, begun, afterCalls, callsAsk}
 use Rattle.machine.specs.ThirdDemand.{Taken, cutRun, uncutRun, AllAccepted, Claim, ThirdDemand}
 use Rattle.machine.specs.ThirdDemand as demand
-use Rattle.machine.proofs.Lists.{RunIs, After, list-is, new-after}
+use Rattle.machine.proofs.Lists.{RunIs, list-is, new-after}
 use Rattle.machine.proofs.Lists as lists
 use Rattle.machine.proofs.Unrefused.{alone-is, uncut-well, list-unrefused}
 

@@ -1,6 +1,6 @@
 -- Document 01, 'The millisecond machine': a list of calls run by the player, and the same list, with the pieces of its rides, run by
 -- the machine.
-use mathlib.Core.Bool.{Bool, true, false, cond, _&&_}
+use mathlib.Core.Bool.{Bool, true, cond, _&&_}
 use mathlib.Core.Option.{Option, none, some}
 use mathlib.Core.List.{List, [], _∷_, _++_}
 use Prim.Native.Nat.{ℕ, _+_}

@@ -1,6 +1,6 @@
 -- Some rides, and what the machine makes of them.
 use mathlib.Core.Path.{_≡_}
-use mathlib.Core.Bool.{true, false}
+use mathlib.Core.Bool.{true}
 use mathlib.Core.List.{List, [], _∷_, _++_}
 use Prim.Native.Nat.{ℕ, _-_}
 use lib.ListN.{length, replicate}
@@ -20,10 +20,9 @@ use Rattle.model.specs.declared.Step.{Step}
 use Rattle.model.specs.declared.Workout.{Workout}
 use Rattle.model.specs.Workout.{noStep, noBlock}
 use Rattle.power.specs.declared.ReadingOption.the-variants.{None, Some}
-use Rattle.readings.specs.declared.Sample.{Sample}
 use Rattle.events.specs.Events.{started, finished, ftp}
 use Rattle.machine.specs.Machine.{Machine, summaryOf}
-use Rattle.machine.specs.Cutting.{Call, read, ride, skip, extend, Piece, CutCall}
+use Rattle.machine.specs.Cutting.{Call, read, ride, skip, extend, CutCall}
 use Rattle.machine.specs.Runs.{begun, afterCalls, callsAsk}
 
 abbrev pub step : Intensity → ℕ → Target → Step

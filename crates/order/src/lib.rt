@@ -125,7 +125,7 @@ fn place_in(found: BlockOption, index: usize, before: usize) -> Place
 }
 
 // The place at `position` of the playing order of `steps` steps, if it has one.
-pub fn place_at(blocks: [Block; 8], count: u8, steps: usize, position: usize) -> PlaceOption
+fn place_at(blocks: [Block; 8], count: u8, steps: usize, position: usize) -> PlaceOption
     ensures { λ r. ⌜ r ≡ nth (order steps (take count blocks)) position ⌝ }
 {
     let mut before = position;

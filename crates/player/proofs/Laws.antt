@@ -21,7 +21,6 @@ use Rattle.state.specs.declared.Player.{Player}
 use Rattle.standing.specs.Standing.{standingOf, belowEnd, lapOk, cadenceIn}
 use Rattle.standing.specs.Facts.{Stands}
 use Rattle.standing.proofs.Known.{known}
-use Rattle.outcomes.specs.declared.Update.{Update}
 use Rattle.state.specs.State.{updateOk}
 use Rattle.outcomes.specs.Outcomes.{ExtraFits, eventless}
 use Rattle.updates.specs.Updates.{Supposes, addNow, rideNow, skipNow}

@@ -1,5 +1,5 @@
 -- player.rs: what a screen shows of a player.
-use mathlib.Core.Bool.{Bool, true, false, cond, not, _||_}
+use mathlib.Core.Bool.{Bool, true, false, cond, _||_}
 use Prim.Native.Nat.{ℕ, _+_, _-_, _*_, _/_, _≤_, min, max}
 use lib.Dec.{leb}
 use Rattle.names.specs.declared.Name.{Name}

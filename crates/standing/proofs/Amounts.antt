@@ -1,5 +1,4 @@
 -- A core with other totals and other amounts of its step keeps the rest of standing.
-use mathlib.Core.Path.{_≡_}
 use Prim.Native.Nat.{ℕ, _+_, _≤_}
 use Rattle.model.specs.declared.Workout.{Workout}
 use Rattle.state.specs.declared.Lap.{Lap}

@@ -97,7 +97,7 @@ fn same_name(a: Name, b: Name) -> bool
 }
 
 // The position of the step on now: the player's, or, done, the last step's.
-pub fn on_place(core: Core) -> usize
+fn on_place(core: Core) -> usize
     ensures { λ r. ⌜ r ≡ onPlace core ⌝ }
 {
     if core.done {

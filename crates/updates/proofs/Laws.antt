@@ -6,12 +6,10 @@ use Prim.Native.Nat.{ℕ, _+_, _≤_}
 use native.Mathlib.Omega.{arith}
 use borrow.Author.Tests.{eq-eqb, ne-eqb}
 use Rattle.validation.proofs.Passes.{passes}
-use Rattle.refusal.specs.declared.Answer.{Answer}
 use Rattle.refusal.specs.declared.Answer.the-variants.{Accepted}
 use Rattle.zones.specs.declared.TrainingProfile.{TrainingProfile}
 use Rattle.model.specs.declared.Workout.{Workout}
 use Rattle.order.specs.Order.{playedLen}
-use Rattle.events.proofs.Laws.{wrote-none}
 use Rattle.readings.specs.declared.Sample.{Sample}
 use Rattle.power.specs.Power.{added}
 use Rattle.readings.specs.Readings.{taken}
@@ -26,9 +24,7 @@ use Rattle.rounds.specs.Contracted.{Rides, Ridden}
 use Rattle.standing.specs.Standing.{onPlace, cadenceIn}
 use Rattle.standing.specs.Facts.{Within, Stands}
 use Rattle.standing.proofs.Amounts.{amounts-within}
-use Rattle.outcomes.specs.declared.Update.{Update}
-use Rattle.outcomes.proofs.Laws.{answers-is, eventless-answers}
-use Rattle.outcomes.specs.Outcomes.{Called, Answers, withCore, eventlessUpdate, eventless, playerOf, totalled}
+use Rattle.outcomes.specs.Outcomes.{Called, Answers, withCore, eventless, playerOf, totalled}
 use Rattle.updates.specs.Updates.{Supposes, addNow, begun, rideBy, rodeTo, rideNow, skipTo, skipNow}
 
 -- the totals grow by what is then still to be ridden

@@ -1,5 +1,5 @@
 -- Document 01's ride, `add` and skip once nothing is left to be asked: what each gives, and what it supposes.
-use mathlib.Core.Bool.{Bool, true, false, cond}
+use mathlib.Core.Bool.{Bool, true, cond}
 use Prim.Native.Nat.{ℕ, _+_, _≤_}
 use lib.Dec.{eqb}
 use Rattle.refusal.specs.declared.Answer.the-variants.{Accepted}

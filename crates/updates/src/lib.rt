@@ -25,7 +25,7 @@ use step_end::next;
 use zones::TrainingProfile;
 
 // The loop of a ride of which nothing is to be asked any more, on the core and its minute.
-pub fn ride_core(
+fn ride_core(
     workout: Workout,
     core: Core,
     ms: Ms,

@@ -10,7 +10,6 @@ use Rattle.blocks.specs.Blocks.{blocksSound}
 use Rattle.order.specs.Order.{playedLen}
 use Rattle.refusal.specs.declared.Answer.{Answer}
 use Rattle.refusal.specs.declared.Answer.the-variants.{Accepted}
-use Rattle.refusal.specs.declared.Invalid.{Invalid}
 use Rattle.refusal.specs.declared.Invalid.the-variants as invalids
 use Rattle.refusal.specs.declared.Refusal.the-variants as refusals
 use Rattle.refusal.specs.Number.{ask}

@@ -4,7 +4,7 @@ use Prim.Native.Nat.{_+_, _-_, _≤_}
 use native.Mathlib.Omega.{arith}
 use borrow.Author.Needs.{needs}
 use Rattle.state.specs.declared.Player.{Player}
-use Rattle.bench.specs.Rides.{begunOf, riddenOf, ridesOf}
+use Rattle.bench.specs.Rides.{begunOf, ridesOf}
 use Rattle.bench.proofs.Laws.{rides-start, rides-next, rides-end}
 use Rattle.bench.proofs.asked_rides.Statement.{statement}
 use Rattle.bench.proofs.asked_rides.Tie as tie

@@ -4,7 +4,7 @@ use Prim.Native.Nat.{_+_, _-_, _≤_}
 use native.Mathlib.Omega.{arith}
 use borrow.Author.Needs.{needs}
 use Rattle.state.specs.declared.Player.{Player}
-use Rattle.bench.specs.Rides.{begunOf, riddenOf, ridesOf}
+use Rattle.bench.specs.Rides.{begunOf, ridesOf}
 use mathlib.Core.Bool.{true}
 use borrow.Author.Tests.{not-true, not-false}
 use Rattle.standing.specs.Standing.{standingOf}

@@ -1,6 +1,5 @@
 -- `step_writer::put_step` meets its contract: the fixed bytes, then the note behind them.
 use denote.Ref.{now}
-use lib.ListN.{length}
 use native.Mathlib.Omega.{arith}
 use Prim.Native.Nat.{_+_}
 use mathlib.Core.Path.{refl}
