@@ -1,11 +1,14 @@
 -- The relation between the player's core with its minute and the machine, and that a part of a step and a step's end keep it.
 use mathlib.Core.Path.{_≡_, refl, sym, ap, ap₂, _∙_, subst}
-use mathlib.Core.Bool.{Bool, true, false, cond}
+use mathlib.Core.Bool.{Bool, true, false, cond, _&&_}
 use mathlib.Core.Option.{Option, none, some}
 use mathlib.Core.List.{List, [], _∷_, _++_, append-assoc}
-use Prim.Native.Nat.{ℕ, _+_, _*_, _/_, _<_}
+use Prim.Native.Nat.{ℕ, _+_, _*_, _/_, _≤_, _<_}
 use native.Mathlib.Omega.{arith}
+use lib.Dec.{ltb, leb}
+use borrow.Author.Tests.{ltb-true, ltb-false, le-leb, lt-leb}
 use Rattle.zones.specs.declared.TrainingProfile.{TrainingProfile}
+use Rattle.zones.specs.Zones.{clamped, heartZone}
 use Rattle.model.specs.declared.Intensity.{Intensity}
 use Rattle.model.specs.declared.Intensity.the-variants.{Warmup, Work, Recovery, Cooldown}
 use Rattle.model.specs.declared.Intensity.the-variants as intensities
@@ -13,9 +16,11 @@ use Rattle.model.specs.declared.Length.{Length}
 use Rattle.model.specs.declared.Length.the-variants.{Time, Distance, Open}
 use Rattle.model.specs.declared.Metric.{Metric}
 use Rattle.model.specs.declared.Metric.the-variants as metrics
+use Rattle.model.specs.declared.Band.{Band}
 use Rattle.model.specs.declared.BandOption.{BandOption}
 use Rattle.model.specs.declared.BandOption.the-variants as bands
 use Rattle.model.specs.declared.Target.{Target}
+use Rattle.model.specs.declared.Target.the-variants.{Free, Ftp, Watts, HeartZone, Lthr, Cadence, Ramp, FtpRamp}
 use Rattle.model.specs.declared.Test.{Test}
 use Rattle.model.specs.declared.Test.the-variants.{Twenty}
 use Rattle.model.specs.declared.Test.the-variants as tests
@@ -34,7 +39,8 @@ use Rattle.readings.specs.declared.ComplianceOption.{ComplianceOption}
 use Rattle.readings.specs.declared.ComplianceOption.the-variants.{NoBand, NoReading}
 use Rattle.readings.specs.declared.ComplianceOption.the-variants as how
 use Rattle.power.specs.Power.{orZero, averageOf}
-use Rattle.readings.specs.Readings.{perMinute, judged, readingOf, complianceOf}
+use Rattle.readings.specs.Readings as readings
+use Rattle.readings.specs.Readings.{perMinute, against, judged, readingOf, complianceOf}
 use Rattle.events.specs.Events.{Event, countdown, finished, ftp, eventsIf}
 use Rattle.state.specs.declared.Lap.{Lap}
 use Rattle.state.specs.declared.Summary.{Summary}
@@ -46,7 +52,7 @@ use Rattle.measure.specs.Measure.{Meter, meter, minuteOf, lowBy, rampTarget, ra
 use Rattle.step_end.specs.StepEnd as player
 use Rattle.step_end.specs.StepEnd.{Outcome, dueAt, countdownsTo, countdownsOf, orElse, arrived, afterEvent, nextTo, nextOf}
 use Rattle.rounds.specs.Rounds.{Riding, riding, advanced, complianceNow}
-use Rattle.machine.specs.Machine.{Tallies, Sums, Machine, stepOf, stepAt, newest, isTest, testIn, endOf, twenty, rampOf, ramp, result, resultIn, ftpAfter, ftpEvents, nextEvent, ended, readingFor, complianceBy, complianceIn, lastPower}
+use Rattle.machine.specs.Machine.{Tallies, Sums, Machine, stepOf, stepAt, newest, isTest, testIn, endOf, twenty, rampOf, ramp, result, resultIn, ftpAfter, ftpEvents, nextEvent, ended, turns, readingFor, Judged, isUnder, isIn, isOver, isNothing, between, judge, judgeIf, judgedBy, judgedIn, orAbsent, lastPower}
 use Rattle.machine.specs.Runs.{Totals}
 use Rattle.machine.specs.ThirdDemand.{isRamp, isCompared, compared}
 use Rattle.machine.proofs.Seconds.{MinuteIs, capped}
@@ -74,14 +80,14 @@ pub record MeasuredIs (t : Measured) (watts : List ℕ) (u : Sums) : Type 0 wher
 
 -- Everything but the step on now. b has the sums of question 13, k the events so far.
 pub record Matches (w : Workout) (b : Totals) (k : List Event) (s : Riding) (m : Machine) : Type 0 where
-  pub position : s .core .position ≡ m .position
-  pub time : s .core .lap .«step_ms» ≡ m .time
-  pub extra : s .core .lap .«extra_s» ≡ m .extra
-  pub summary : SummaryIs (playedLen w) (m .position) (m .skipped) (m .ftp) (m .tallies) (s .core .summary)
+  pub position : s .core .position ≡ m .step .position
+  pub time : s .core .lap .«step_ms» ≡ m .step .time
+  pub extra : s .core .lap .«extra_s» ≡ m .step .extra
+  pub summary : SummaryIs (playedLen w) (m .step .position) (m .given .skipped) (m .given .ftp) (m .tallies) (s .core .summary)
   pub measured : MeasuredIs (s .core .measured) (s .watts) (m .sums)
   pub power : PowerIs (s .core .readings .power) (m .readings)
   pub last : s .core .readings .«last_sample» ≡ newest (m .readings)
-  pub events : m .events ≡ k
+  pub events : m .given .events ≡ k
   pub total-ms : s .core .«total_ms» .0 ≡ b .ms
   pub total-mm : s .core .«total_mm» .0 ≡ b .mm
 
@@ -95,7 +101,7 @@ pub record Riding-on (s : Step) (c : Core) (m : Machine) : Type 0 where
   pub done : c .done ≡ false
   pub finished : c .summary .finished ≡ false
   pub on : On s c
-  pub before : Before (s .length) (m .extra) (m .time)
+  pub before : Before (s .length) (m .step .extra) (m .step .time)
 
 -- The step on now, or that all are done.
 abbrev pub Now : Option Step → Core → Machine → Type 0
@@ -104,35 +110,87 @@ Now (some s) c m = Riding-on s c m
 
 pub record Alike (w : Workout) (b : Totals) (k : List Event) (s : Riding) (m : Machine) : Type 0 where
   pub matches : Matches w b k s m
-  pub now : Now (stepAt w (m .position)) (s .core) m
+  pub now : Now (stepAt w (m .step .position)) (s .core) m
 
--- A step that the demand takes: some time or open, and no ramp.
+-- A step that the demand takes: some time or open, no ramp, and a heart zone from 1 to 5.
 abbrev pub Lasting : Length → Type 0
 Lasting (Time secs) = 0 < secs
 Lasting (Distance metres) = ⊥
 Lasting Open = Unit
 
+abbrev pub Zoned : Target → Type 0
+Zoned (HeartZone zone) = (1 ≤ zone) × (zone ≤ 5)
+Zoned Free = Unit
+Zoned (Ftp low high) = Unit
+Zoned (Watts low high) = Unit
+Zoned (Lthr low high) = Unit
+Zoned (Cadence low high) = Unit
+Zoned (Ramp start step every) = Unit
+Zoned (FtpRamp start step every) = Unit
+
 pub record Plain (s : Step) : Type 0 where
   pub lasting : Lasting (s .length)
   pub flat : isRamp (s .target) ≡ false
+  pub zoned : Zoned (s .target)
 
 -- A part of a step.
+
+-- What the player and the machine each say of a reading is the same.
+
+-- the player's answer in the machine's words
+abbrev judgedAs : ComplianceOption → Judged
+judgedAs NoBand = isNothing
+judgedAs NoReading = isNothing
+judgedAs (how.Some Under) = isUnder
+judgedAs (how.Some In) = isIn
+judgedAs (how.Some Over) = isOver
+
+law-turns : (r : ReadingOption) → perMinute r ≡ turns r
+law-turns None = refl
+law-turns (Some tenths) = refl
+
+law-between : (low high value : ℕ) → judgedAs (how.Some (against low high value)) ≡ between low high value
+law-between low high value = by (ltb value low) (ltb high value) refl refl
+  where
+    by : (a b : Bool) → ltb value low ≡ a → ltb high value ≡ b → judgedAs (how.Some (cond a Under (cond b Over In))) ≡ cond (leb low value && leb value high) isIn (cond a isUnder isOver)
+    by true b e f = rw (lt-leb low value (ltb-true value low e)) refl
+    by false true e f = rw (le-leb low value (ltb-false value low e), lt-leb value high (ltb-true high value f)) refl
+    by false false e f = rw (le-leb low value (ltb-false value low e), le-leb value high (ltb-false high value f)) refl
+
+zone-same : (zone : ℕ) → 1 ≤ zone → zone ≤ 5 → clamped zone 5 ≡ zone
+zone-same zone h g = omega arith
+
+law-judge : (target : Target) (b : Band) (p : TrainingProfile) (value : ℕ) → Zoned target → judgedAs (how.Some (readings.complianceBy (readings.compared target b p value))) ≡ judge target b p value
+law-judge Free b p value z = law-between (b .low) (b .high) value
+law-judge (Ftp low high) b p value z = law-between (b .low) (b .high) value
+law-judge (Watts low high) b p value z = law-between (b .low) (b .high) value
+law-judge (HeartZone zone) b p value z = rw (zone-same zone (z .0) (z .1)) (law-between zone zone (heartZone p value))
+law-judge (Lthr low high) b p value z = law-between (b .low) (b .high) value
+law-judge (Cadence low high) b p value z = law-between (b .low) (b .high) value
+law-judge (Ramp start step every) b p value z = law-between (b .low) (b .high) value
+law-judge (FtpRamp start step every) b p value z = law-between (b .low) (b .high) value
 
 reading-is : (metric : Metric) (r : Readings) (samples : List Sample) → PowerIs (r .power) samples → r .«last_sample» ≡ newest samples
     → readingOf metric r ≡ readingFor metric samples
 unfolding readingOf readingFor
 reading-is metrics.Power r samples P e = average-is (r .power) samples P
 reading-is metrics.Heart r samples P e = ap (λ (x : Sample). x .«heart_bpm») e
-reading-is metrics.Cadence r samples P e = ap (λ (x : Sample). perMinute (x .«cadence_tenths»)) e
+reading-is metrics.Cadence r samples P e = ap (λ (x : Sample). perMinute (x .«cadence_tenths»)) e ∙ law-turns (newest samples .«cadence_tenths»)
 
-compliance-is : (target : Target) (band : BandOption) (p : TrainingProfile) (r : Readings) (samples : List Sample) → PowerIs (r .power) samples
-    → r .«last_sample» ≡ newest samples → complianceOf target band p r ≡ complianceBy target band p samples
+judged-is : (target : Target) (b : Band) (p : TrainingProfile) (r : ReadingOption) → Zoned target → judgedAs (judged target b p r) ≡ judgeIf target b p r
+unfolding judged
+judged-is target b p None z = refl
+judged-is target b p (Some value) z = law-judge target b p value z
+
+compliance-is : (target : Target) (band : BandOption) (p : TrainingProfile) (r : Readings) (samples : List Sample) → Zoned target → PowerIs (r .power) samples
+    → r .«last_sample» ≡ newest samples → judgedAs (complianceOf target band p r) ≡ judgedBy target band p samples
 unfolding complianceOf
-compliance-is target bands.None p r samples P e = refl
-compliance-is target (bands.Some band) p r samples P e = ap (judged target band p) (reading-is (band .metric) r samples P e)
+compliance-is target bands.None p r samples z P e = refl
+compliance-is target (bands.Some band) p r samples z P e =
+    judged-is target band p (readingOf (band .metric) r) z ∙ ap (judgeIf target band p) (reading-is (band .metric) r samples P e)
 
 tallied-is : (c : ComplianceOption) (n steps position skipped : ℕ) (ftp : ReadingOption) (t : Tallies) (s : Summary)
-    → SummaryIs steps position skipped ftp t s → SummaryIs steps position skipped ftp (tallyBy c n t) (tallied c n s)
+    → SummaryIs steps position skipped ftp t s → SummaryIs steps position skipped ftp (tallyBy (judgedAs c) n t) (tallied c n s)
 unfolding tallied tallyBy
 tallied-is NoBand n steps position skipped ftp t s R = R
 tallied-is NoReading n steps position skipped ftp t s R = R
@@ -201,17 +259,21 @@ test-is Recovery test = refl
 test-is Cooldown test = refl
 test-is intensities.Test test = refl
 
+or-same : (r : ReadingOption) → orZero r ≡ orAbsent r
+or-same None = refl
+or-same (Some power) = refl
+
 module _ (w : Workout) (b : Totals) (k : List Event) (s : Step) (x : Riding) (m : Machine) (R : Matches w b k x m) (o : On s (x .core)) where
-  compliance-now : (p : TrainingProfile) → complianceNow p (x .core) ≡ complianceIn p s m
-  compliance-now p =
-      ap₂ (λ (target : Target) (time : ℕ). complianceOf target (bandOf target p (time / 1000)) p (x .core .readings)) (o .target) (R .time)
-      ∙ compliance-is (s .target) (bandOf (s .target) p (m .time / 1000)) p (x .core .readings) (m .readings) (R .power) (R .last)
+  compliance-now : (p : TrainingProfile) → Zoned (s .target) → judgedAs (complianceNow p (x .core)) ≡ judgedIn p s m
+  compliance-now p z =
+      ap₂ (λ (target : Target) (time : ℕ). judgedAs (complianceOf target (bandOf target p (time / 1000)) p (x .core .readings))) (o .target) (R .time)
+      ∙ compliance-is (s .target) (bandOf (s .target) p (m .step .time / 1000)) p (x .core .readings) (m .readings) z (R .power) (R .last)
 
   test-now : measure.testIn (x .core .on .intensity) (w .test) ≡ testIn w s
   test-now = ap (λ (i : Intensity). measure.testIn i (w .test)) (o .intensity) ∙ test-is (s .intensity) (w .test)
 
   power-now : orZero (x .core .readings .«last_sample» .«power_watts») ≡ lastPower (m .readings)
-  power-now = ap (λ (r : Sample). orZero (r .«power_watts»)) (R .last)
+  power-now = ap (λ (r : Sample). orZero (r .«power_watts»)) (R .last) ∙ or-same (newest (m .readings) .«power_watts»)
 
   measured-now : (p : TrainingProfile) (n low : ℕ)
       → MeasuredIs
@@ -223,17 +285,17 @@ module _ (w : Workout) (b : Totals) (k : List Event) (s : Step) (x : Riding) (m 
       (sym (ap₂ (λ (test : Test) (watts : ℕ). measuredBy test watts n low (meter (x .core .measured) (x .watts))) test-now power-now))
       (measured-is (testIn w s) (lastPower (m .readings)) n low (x .core .measured) (x .watts) (m .sums) (R .measured))
 
-  pub advanced-is : (p : TrainingProfile) (n d : ℕ) → Matches w b k (advanced (w .test) p n d x) (riddenBy w p s n m)
+  pub advanced-is : (p : TrainingProfile) (n d : ℕ) → Zoned (s .target) → Matches w b k (advanced (w .test) p n d x) (riddenBy w p s n m)
   unfolding advanced riddenBy measuredOf
-  advanced-is p n d =
+  advanced-is p n d z =
       record {
         position = R .position;
         time = omega (arith, R .time);
         extra = R .extra;
         summary =
-            subst (λ (c : ComplianceOption). SummaryIs (playedLen w) (m .position) (m .skipped) (m .ftp) (tallyBy (complianceIn p s m) n (m .tallies)) (tallied c n (x .core .summary)))
-            (sym (compliance-now p))
-            (tallied-is (complianceIn p s m) n (playedLen w) (m .position) (m .skipped) (m .ftp) (m .tallies) (x .core .summary) (R .summary));
+            subst (λ (j : Judged). SummaryIs (playedLen w) (m .step .position) (m .given .skipped) (m .given .ftp) (tallyBy j n (m .tallies)) (tallied (complianceNow p (x .core)) n (x .core .summary)))
+            (compliance-now p z)
+            (tallied-is (complianceNow p (x .core)) n (playedLen w) (m .step .position) (m .given .skipped) (m .given .ftp) (m .tallies) (x .core .summary) (R .summary));
         measured =
             measured-now p n
             (lowBy (rampTarget (rampOption (x .core .on .target) p) ((x .core .lap .«step_ms» + n) / 1000)) (averageOf (x .core .readings .power)) n (x .core .measured .«ramp_low_ms»));
@@ -311,7 +373,7 @@ module _ (w : Workout) (b : Totals) (k : List Event) (s : Step) (x : Riding) (m 
   unfolding resultOf
   result-is marked =
       ap₂ (λ (test : Test) (l : Length). resultBy test l (x .core .lap) marked (x .core .measured)) (test-now w b k s x m R o) (o .length)
-      ∙ result-by (testIn w s) (s .length) (x .core .lap) marked (m .extra) (x .core .measured) (x .watts) (m .sums) (R .extra) (R .measured)
+      ∙ result-by (testIn w s) (s .length) (x .core .lap) marked (m .step .extra) (x .core .measured) (x .watts) (m .sums) (R .extra) (R .measured)
 
 -- A step's end.
 
@@ -340,7 +402,7 @@ module _ (w : Workout) (each : (i : ℕ) (s : Step) → stepAt w i ≡ some s �
 
   module _ (b : Totals) (k : List Event) (s : Step) (marked : Bool) (x : Riding) (m : Machine) (R : Matches w b k x m) (o : On s (x .core)) where
     abbrev next : PlayedOption
-    next = playedOf w (m .position + 1)
+    next = playedOf w (m .step .position + 1)
 
     abbrev outcome : Outcome
     outcome = nextTo next marked (resultIn w s marked m) (x .core)
@@ -363,7 +425,7 @@ module _ (w : Workout) (each : (i : ℕ) (s : Step) → stepAt w i ≡ some s �
                 inside = R .summary .inside;
                 under = R .summary .under;
                 over = R .summary .over;
-                ftp-is = ap (orElse (resultIn w s marked m)) (R .summary .ftp-is) ∙ ftp-after (resultIn w s marked m) (m .ftp);
+                ftp-is = ap (orElse (resultIn w s marked m)) (R .summary .ftp-is) ∙ ftp-after (resultIn w s marked m) (m .given .ftp);
                 steps-done = ap (λ (n : ℕ). n + 1) (R .summary .steps-done);
                 steps-are = R .summary .steps-are;
                 skipped-are = ap (λ (n : ℕ). n + cond marked 1 0) (R .summary .skipped-are);
@@ -374,14 +436,14 @@ module _ (w : Workout) (each : (i : ℕ) (s : Step) → stepAt w i ≡ some s �
           events =
               ap₂ (λ (x y : List Event). x ++ y) (R .events)
               (sym (ap (λ (n : ℕ). compared (player.ftpEvents (resultIn w s marked m) ++ (afterEvent (next .found) (n + 1) ∷ []))) (R .position)
-              ∙ end-events (resultIn w s marked m) (next .found) (next .played) (m .position + 1)));
+              ∙ end-events (resultIn w s marked m) (next .found) (next .played) (m .step .position + 1)));
           total-ms = R .total-ms;
           total-mm = R .total-mm;
         }
 
-    next-now : Now (stepAt w (ended w s marked m .position)) (outcome .core) (ended w s marked m)
+    next-now : Now (stepAt w (ended w s marked m .step .position)) (outcome .core) (ended w s marked m)
     unfolding ended stepAt
-    next-now = now-next (next .found) (next .played) marked (resultIn w s marked m) (x .core) m s (each (m .position + 1))
+    next-now = now-next (next .found) (next .played) marked (resultIn w s marked m) (x .core) m s (each (m .step .position + 1))
 
     pub next-is : Alike w b (k ++ compared (nextOf w marked (x .core) .events)) (riding (nextOf w marked (x .core) .core) (x .watts)) (ended w s marked m)
     next-is =

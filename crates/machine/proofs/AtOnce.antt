@@ -22,11 +22,7 @@ use Rattle.model.specs.declared.Test.the-variants as tests
 use Rattle.model.specs.declared.Step.{Step}
 use Rattle.model.specs.declared.Workout.{Workout}
 use Rattle.model.specs.Target.{bandOf}
-use Rattle.readings.specs.declared.Compliance.the-variants.{Under, In, Over}
-use Rattle.readings.specs.declared.ComplianceOption.{ComplianceOption}
-use Rattle.readings.specs.declared.ComplianceOption.the-variants.{NoBand, NoReading}
-use Rattle.readings.specs.declared.ComplianceOption.the-variants as how
-use Rattle.machine.specs.Machine.{Tallies, Sums, Machine, stepAt, testIn, endOf, ended, complianceBy, complianceIn, tally, lastPower, rested, summed, ridden, isOver, closed, millisecondIn, millisecond, milliseconds}
+use Rattle.machine.specs.Machine.{Tallies, Sums, Machine, stepAt, testIn, endOf, ended, Judged, isUnder, isIn, isOver, isNothing, judgedBy, judgedIn, tally, lastPower, rested, summed, ridden, endsNow, closed, millisecondIn, millisecond, milliseconds}
 use Rattle.machine.specs.ThirdDemand.{isRamp}
 use Rattle.machine.proofs.Seconds.{replicate-more}
 
@@ -47,12 +43,11 @@ band-stays (FtpRamp start step every) p a b f = absurd (apart f)
 
 -- Some milliseconds at once.
 
-unfoldable pub tallyBy : ComplianceOption → ℕ → Tallies → Tallies
-tallyBy NoBand n t = t
-tallyBy NoReading n t = t
-tallyBy (how.Some Under) n t = record { targeted = t .targeted + n; inside = t .inside; under = t .under + n; over = t .over }
-tallyBy (how.Some In) n t = record { targeted = t .targeted + n; inside = t .inside + n; under = t .under; over = t .over }
-tallyBy (how.Some Over) n t = record { targeted = t .targeted + n; inside = t .inside; under = t .under; over = t .over + n }
+unfoldable pub tallyBy : Judged → ℕ → Tallies → Tallies
+tallyBy isUnder n t = record { targeted = t .targeted + n; inside = t .inside; under = t .under + n; over = t .over }
+tallyBy isIn n t = record { targeted = t .targeted + n; inside = t .inside + n; under = t .under; over = t .over }
+tallyBy isOver n t = record { targeted = t .targeted + n; inside = t .inside; under = t .under; over = t .over + n }
+tallyBy isNothing n t = t
 
 unfoldable pub sumsBy : Test → ℕ → ℕ → Sums → Sums
 sumsBy tests.None w n u = u
@@ -63,36 +58,30 @@ sumsBy tests.Ramp w n u =
 unfoldable pub riddenBy : Workout → TrainingProfile → Step → ℕ → Machine → Machine
 riddenBy w p s n m =
     record {
-      position = m .position;
-      time = m .time + n;
-      extra = m .extra;
-      skipped = m .skipped;
+      step = record { position = m .step .position; time = m .step .time + n; extra = m .step .extra };
       readings = m .readings;
-      tallies = tallyBy (complianceIn p s m) n (m .tallies);
+      tallies = tallyBy (judgedIn p s m) n (m .tallies);
       sums = sumsBy (testIn w s) (lastPower (m .readings)) n (m .sums);
-      ftp = m .ftp;
-      events = m .events;
+      given = m .given;
     }
 
 tallies-path : {a b c d a' b' c' d' : ℕ} → a ≡ a' → b ≡ b' → c ≡ c' → d ≡ d'
     → _≡_ {A = Tallies} (record { targeted = a; inside = b; under = c; over = d }) (record { targeted = a'; inside = b'; under = c'; over = d' })
 tallies-path p q r s = λ i. record { targeted = p i; inside = q i; under = r i; over = s i }
 
-tally-none : (c : ComplianceOption) (t : Tallies) → tallyBy c 0 t ≡ t
+tally-none : (j : Judged) (t : Tallies) → tallyBy j 0 t ≡ t
 unfolding tallyBy
-tally-none NoBand t = refl
-tally-none NoReading t = refl
-tally-none (how.Some Under) t = tallies-path (omega arith) refl (omega arith) refl
-tally-none (how.Some In) t = tallies-path (omega arith) (omega arith) refl refl
-tally-none (how.Some Over) t = tallies-path (omega arith) refl refl (omega arith)
+tally-none isUnder t = tallies-path (omega arith) refl (omega arith) refl
+tally-none isIn t = tallies-path (omega arith) (omega arith) refl refl
+tally-none isOver t = tallies-path (omega arith) refl refl (omega arith)
+tally-none isNothing t = refl
 
-tally-more : (c : ComplianceOption) (n : ℕ) (t : Tallies) → tallyBy c (suc n) t ≡ tallyBy c n (tally c t)
+tally-more : (j : Judged) (n : ℕ) (t : Tallies) → tallyBy j (suc n) t ≡ tallyBy j n (tally j t)
 unfolding tallyBy tally
-tally-more NoBand n t = refl
-tally-more NoReading n t = refl
-tally-more (how.Some Under) n t = tallies-path (omega arith) refl (omega arith) refl
-tally-more (how.Some In) n t = tallies-path (omega arith) (omega arith) refl refl
-tally-more (how.Some Over) n t = tallies-path (omega arith) refl refl (omega arith)
+tally-more isUnder n t = tallies-path (omega arith) refl (omega arith) refl
+tally-more isIn n t = tallies-path (omega arith) (omega arith) refl refl
+tally-more isOver n t = tallies-path (omega arith) refl refl (omega arith)
+tally-more isNothing n t = refl
 
 sums-path : {a b c a' b' c' : ℕ} {l l' : List ℕ} → a ≡ a' → b ≡ b' → c ≡ c' → l ≡ l'
     → _≡_ {A = Sums} (record { sum = a; time = b; rest = c; seconds = l }) (record { sum = a'; time = b'; rest = c'; seconds = l' })
@@ -138,10 +127,10 @@ summed-small tests.Ramp w u h = rested-small (eqb (u .rest + 1) 1000) w u h refl
 
 machine-path : (m : Machine) {t t' : ℕ} {a a' : Tallies} {u u' : Sums} → t ≡ t' → a ≡ a' → u ≡ u'
     → _≡_ {A = Machine}
-    (record { position = m .position; time = t; extra = m .extra; skipped = m .skipped; readings = m .readings; tallies = a; sums = u; ftp = m .ftp; events = m .events })
-    (record { position = m .position; time = t'; extra = m .extra; skipped = m .skipped; readings = m .readings; tallies = a'; sums = u'; ftp = m .ftp; events = m .events })
+    (record { step = record { position = m .step .position; time = t; extra = m .step .extra }; readings = m .readings; tallies = a; sums = u; given = m .given })
+    (record { step = record { position = m .step .position; time = t'; extra = m .step .extra }; readings = m .readings; tallies = a'; sums = u'; given = m .given })
 machine-path m p q r =
-    λ i. record { position = m .position; time = p i; extra = m .extra; skipped = m .skipped; readings = m .readings; tallies = q i; sums = r i; ftp = m .ftp; events = m .events }
+    λ i. record { step = record { position = m .step .position; time = p i; extra = m .step .extra }; readings = m .readings; tallies = q i; sums = r i; given = m .given }
 
 -- The time is before the step's end.
 abbrev pub Before : Length → ℕ → ℕ → Type 0
@@ -155,14 +144,14 @@ EndsAt (Time secs) extra time = time ≡ endOf secs extra
 EndsAt (Distance metres) extra time = ⊥
 EndsAt Open extra time = ⊥
 
-before-is : (l : Length) (extra time : ℕ) → Before l extra time → isOver l extra time ≡ false
-unfolding isOver
+before-is : (l : Length) (extra time : ℕ) → Before l extra time → endsNow l extra time ≡ false
+unfolding endsNow
 before-is (Time secs) extra time h = ne-eqb time (endOf secs extra) (λ q. omega arith)
 before-is (Distance metres) extra time h = refl
 before-is Open extra time h = refl
 
-ends-is : (l : Length) (extra time : ℕ) → EndsAt l extra time → isOver l extra time ≡ true
-unfolding isOver
+ends-is : (l : Length) (extra time : ℕ) → EndsAt l extra time → endsNow l extra time ≡ true
+unfolding endsNow
 ends-is (Time secs) extra time h = eq-eqb time (endOf secs extra) h
 ends-is (Distance metres) extra time h = absurd h
 ends-is Open extra time h = absurd h
@@ -184,7 +173,7 @@ module _ (w : Workout) (p : TrainingProfile) where
   milliseconds-add (suc a) b m = rw suc-add (milliseconds-add a b (millisecond w p m))
 
   -- after the finish
-  pub milliseconds-done : (n : ℕ) (m : Machine) → stepAt w (m .position) ≡ none → milliseconds w p n m ≡ m
+  pub milliseconds-done : (n : ℕ) (m : Machine) → stepAt w (m .step .position) ≡ none → milliseconds w p n m ≡ m
   unfolding milliseconds millisecond millisecondIn
   milliseconds-done zero m e = refl
   milliseconds-done (suc n) m e = rw e (milliseconds-done n m e)
@@ -192,48 +181,48 @@ module _ (w : Workout) (p : TrainingProfile) where
   module _ (s : Step) (f : isRamp (s .target) ≡ false) where
     by-none : (m : Machine) → m .sums .rest < 1000 → riddenBy w p s 0 m ≡ m
     unfolding riddenBy
-    by-none m h = machine-path m (omega arith) (tally-none (complianceIn p s m) (m .tallies)) (sums-none (testIn w s) (lastPower (m .readings)) (m .sums) h)
+    by-none m h = machine-path m (omega arith) (tally-none (judgedIn p s m) (m .tallies)) (sums-none (testIn w s) (lastPower (m .readings)) (m .sums) h)
 
     by-more : (n : ℕ) (m : Machine) → m .sums .rest < 1000 → riddenBy w p s (suc n) m ≡ riddenBy w p s n (ridden w p s m)
     unfolding riddenBy ridden
     by-more n m h =
         machine-path m (omega arith)
-        (tally-more (complianceIn p s m) n (m .tallies)
-        ∙ ap (λ (b : BandOption). tallyBy (complianceBy (s .target) b p (m .readings)) n (tally (complianceIn p s m) (m .tallies)))
-        (band-stays (s .target) p (m .time / 1000) ((m .time + 1) / 1000) f))
+        (tally-more (judgedIn p s m) n (m .tallies)
+        ∙ ap (λ (b : BandOption). tallyBy (judgedBy (s .target) b p (m .readings)) n (tally (judgedIn p s m) (m .tallies)))
+        (band-stays (s .target) p (m .step .time / 1000) ((m .step .time + 1) / 1000) f))
         (sums-more (testIn w s) (lastPower (m .readings)) n (m .sums) h)
 
     ridden-small : (m : Machine) → m .sums .rest < 1000 → ridden w p s m .sums .rest < 1000
     unfolding ridden
     ridden-small m h = summed-small (testIn w s) (lastPower (m .readings)) (m .sums) h
 
-    one-within : (m : Machine) → stepAt w (m .position) ≡ some s → Before (s .length) (m .extra) (m .time + 1) → millisecond w p m ≡ ridden w p s m
+    one-within : (m : Machine) → stepAt w (m .step .position) ≡ some s → Before (s .length) (m .step .extra) (m .step .time + 1) → millisecond w p m ≡ ridden w p s m
     unfolding millisecond millisecondIn closed ridden
-    one-within m e h = rw (e, before-is (s .length) (m .extra) (m .time + 1) h) refl
+    one-within m e h = rw (e, before-is (s .length) (m .step .extra) (m .step .time + 1) h) refl
 
-    one-end : (m : Machine) → stepAt w (m .position) ≡ some s → EndsAt (s .length) (m .extra) (m .time + 1) → millisecond w p m ≡ ended w s false (ridden w p s m)
+    one-end : (m : Machine) → stepAt w (m .step .position) ≡ some s → EndsAt (s .length) (m .step .extra) (m .step .time + 1) → millisecond w p m ≡ ended w s false (ridden w p s m)
     unfolding millisecond millisecondIn closed ridden
-    one-end m e h = rw (e, ends-is (s .length) (m .extra) (m .time + 1) h) refl
+    one-end m e h = rw (e, ends-is (s .length) (m .step .extra) (m .step .time + 1) h) refl
 
-    shift : (m : Machine) (n : ℕ) → m .time + 1 + n ≡ m .time + suc n
+    shift : (m : Machine) (n : ℕ) → m .step .time + 1 + n ≡ m .step .time + suc n
     shift m n = omega arith
 
     -- within the step
-    pub milliseconds-within : (n : ℕ) (m : Machine) → m .sums .rest < 1000 → stepAt w (m .position) ≡ some s → Before (s .length) (m .extra) (m .time + n)
+    pub milliseconds-within : (n : ℕ) (m : Machine) → m .sums .rest < 1000 → stepAt w (m .step .position) ≡ some s → Before (s .length) (m .step .extra) (m .step .time + n)
         → milliseconds w p n m ≡ riddenBy w p s n m
     unfolding milliseconds ridden
     milliseconds-within zero m r e h = sym (by-none m r)
     milliseconds-within (suc n) m r e h =
-        ap (milliseconds w p n) (one-within m e (earlier (s .length) (m .extra) (m .time + suc n) (m .time + 1) (omega arith) h))
+        ap (milliseconds w p n) (one-within m e (earlier (s .length) (m .step .extra) (m .step .time + suc n) (m .step .time + 1) (omega arith) h))
         ∙ milliseconds-within n (ridden w p s m) (ridden-small m r) e (rw (shift m n) h)
         ∙ sym (by-more n m r)
 
     -- to its end
-    pub milliseconds-end : (n : ℕ) (m : Machine) → m .sums .rest < 1000 → stepAt w (m .position) ≡ some s → EndsAt (s .length) (m .extra) (m .time + suc n)
+    pub milliseconds-end : (n : ℕ) (m : Machine) → m .sums .rest < 1000 → stepAt w (m .step .position) ≡ some s → EndsAt (s .length) (m .step .extra) (m .step .time + suc n)
         → milliseconds w p (suc n) m ≡ ended w s false (riddenBy w p s (suc n) m)
     unfolding milliseconds ridden
     milliseconds-end zero m r e h = one-end m e h ∙ ap (ended w s false) (sym (by-more zero m r ∙ by-none (ridden w p s m) (ridden-small m r)))
     milliseconds-end (suc n) m r e h =
-        ap (milliseconds w p (suc n)) (one-within m e (before-end (s .length) (m .extra) (m .time + suc (suc n)) (m .time + 1) (omega arith) h))
+        ap (milliseconds w p (suc n)) (one-within m e (before-end (s .length) (m .step .extra) (m .step .time + suc (suc n)) (m .step .time + 1) (omega arith) h))
         ∙ milliseconds-end n (ridden w p s m) (ridden-small m r) e (rw (shift m (suc n)) h)
         ∙ ap (ended w s false) (sym (by-more (suc n) m r))

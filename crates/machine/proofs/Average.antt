@@ -5,7 +5,7 @@ use mathlib.Core.List.{List, [], _∷_, _++_, map, reverse, reverse-cons}
 use Prim.Native.Nat.{ℕ, zero, suc, _+_, _%_, _≤_, _<_}
 use native.Mathlib.Nat.{mod-lt, mod-eq-of-lt, le-of-suc-le-suc, not-suc-le-zero}
 use native.Mathlib.Omega.{arith}
-use lib.ListN.{length, take, drop, set, replicate, length-set, length-take, take-append-drop, length-map}
+use lib.ListN.{length, take, drop, set, replicate, length-set, length-take, length-append, take-append-drop, length-map}
 use lib.Seq.{take-take}
 use Rattle.common.specs.Lists.{sum}
 use Rattle.power.specs.declared.ReadingOption.{ReadingOption}
@@ -13,8 +13,11 @@ use Rattle.power.specs.declared.ReadingOption.the-variants.{None, Some}
 use Rattle.readings.specs.declared.Sample.{Sample}
 use Rattle.power.specs.declared.Power3s.{Power3s}
 use Rattle.power.specs.Power.{orZero, isSome, countOf, readingAt, window, meanBy, average, averageOf, added}
-use Rattle.machine.specs.Machine.{powerOf}
+use Rattle.machine.specs.Machine.{ifPresent, present, averageWatts, mean}
 use Rattle.machine.proofs.Seconds.{backwards, stored}
+
+abbrev pub powerOf : Sample → ReadingOption
+powerOf sample = sample .«power_watts»
 
 pub record PowerIs (a : Power3s) (samples : List Sample) : Type 0 where
   pub watts : length (a .watts) ≡ 3
@@ -84,8 +87,44 @@ take-front zero xs ys = refl
 take-front (suc k) [] ys = refl
 take-front {A} (suc k) (x ∷ xs) ys = ap (λ (l : List A). x ∷ l) (take-front k xs ys)
 
+-- The player's sums over all readings, absent ones as 0, are the machine's over those present.
+
+joined-sum : (xs ys : List ℕ) → sum (xs ++ ys) ≡ sum xs + sum ys
+unfolding sum
+joined-sum [] ys = omega arith
+joined-sum (x ∷ xs) ys = omega (arith, joined-sum xs ys)
+
+one-sum : (r : ReadingOption) → sum (ifPresent r) ≡ orZero r
+unfolding sum
+one-sum None = refl
+one-sum (Some watts) = omega arith
+
+one-length : (r : ReadingOption) → length (ifPresent r) ≡ countOf r
+one-length None = refl
+one-length (Some watts) = refl
+
+present-sum : (samples : List Sample) → sum (map orZero (map powerOf samples)) ≡ sum (present samples)
+unfolding sum present
+present-sum [] = refl
+present-sum (x ∷ xs) = omega (arith, joined-sum (ifPresent (powerOf x)) (present xs), one-sum (powerOf x), present-sum xs)
+
+present-length : (samples : List Sample) → sum (map countOf (map powerOf samples)) ≡ length (present samples)
+unfolding sum present
+present-length [] = refl
+present-length (x ∷ xs) = omega (arith, length-append (ifPresent (powerOf x)) (present xs), one-length (powerOf x), present-length xs)
+
+mean-is : (ws : List ℕ) → meanBy (sum ws) (length ws) ≡ averageWatts ws
+unfolding meanBy mean
+mean-is [] = refl
+mean-is (w ∷ ws) = refl
+
+-- the player's mean of some readings is the machine's
+pub law-average : (samples : List Sample) → average (map powerOf samples) ≡ averageWatts (present samples)
+unfolding average
+law-average samples = ap₂ meanBy (present-sum samples) (present-length samples) ∙ mean-is (present samples)
+
 -- "the three-reading average" is that of the newest three readings
-pub average-is : (a : Power3s) (samples : List Sample) → PowerIs a samples → averageOf a ≡ average (map powerOf samples)
+pub average-is : (a : Power3s) (samples : List Sample) → PowerIs a samples → averageOf a ≡ averageWatts (present samples)
 unfolding averageOf average
 average-is a samples R =
     let held : List ReadingOption = window (a .present) (a .watts) in
@@ -93,6 +132,7 @@ average-is a samples R =
     ap₂ meanBy
     (sym (total-backwards orZero held (a .next)) ∙ ap (λ (l : List ReadingOption). sum (map orZero l)) (R .same) ∙ total-padded orZero None refl 3 3 (map powerOf samples) few)
     (sym (total-backwards countOf held (a .next)) ∙ ap (λ (l : List ReadingOption). sum (map countOf l)) (R .same) ∙ total-padded countOf None refl 3 3 (map powerOf samples) few)
+    ∙ law-average samples
 
 module _ (sample : Sample) (a : Power3s) (samples : List Sample) (R : PowerIs a samples) where
   abbrev r : ReadingOption

@@ -35,12 +35,12 @@ use Rattle.player.specs.Calls.{answered, updateAnswer, rideAnswer, rideOf, read
 use Rattle.machine.specs.Machine.{Machine, stepAt, reading, extraIn, extraAfter, withExtra, skipped, milliseconds}
 use Rattle.machine.specs.Cutting.{read, skip, extend, Piece}
 use Rattle.machine.specs.Runs.{ofRead, ofExtend, called, Totals, Progress, cadenceOk, readAsks, pieceOk, placesOk, pieceAsks, skipAsks, extraAsks, extendAsks, unlessRefused, withPiece, afterPiece, afterCall}
-use Rattle.machine.specs.ThirdDemand.{compared, Taken}
+use Rattle.machine.specs.ThirdDemand.{compared}
 use Rattle.machine.proofs.Average.{added-is}
 use Rattle.machine.proofs.AtOnce.{Before}
 use Rattle.machine.proofs.Alike.{Now, Alike, Lasting, next-is}
 use Rattle.machine.proofs.Loop.{cond-true, cond-false, loop-is}
-use Rattle.machine.proofs.Scope.{few, past, each}
+use Rattle.machine.proofs.Scope.{Held, few, past, each}
 
 -- The player and the machine.
 pub record Same (w : Workout) (b : Totals) (k : List Event) (q : Player) (m : Machine) : Type 0 where
@@ -55,7 +55,7 @@ pub record Goes (w : Workout) (k : List Event) (c : Called) (a : Answer) (s : Pr
 ask-passes : (t : Bool) (r : Refusal) (rest : Answer) → t ≡ true → ask t r rest ≡ rest
 ask-passes t r rest e = ap (λ (b : Bool). ask b r rest) e
 
-module _ (w : Workout) (p : TrainingProfile) (T : Taken w) (ok : profileOk p ≡ true) where
+module _ (w : Workout) (p : TrainingProfile) (T : Held w) (ok : profileOk p ≡ true) where
   goes-by : (k : List Event) {c c' : Called} {a : Answer} {s : Progress} → c ≡ c' → Goes w k c' a s → Goes w k c a s
   goes-by k {c} {c'} {a} {s} e G = subst (λ (x : Called). Goes w k x a s) (sym e) G
 
@@ -114,7 +114,7 @@ module _ (w : Workout) (p : TrainingProfile) (T : Taken w) (ok : profileOk p ≡
                       total-ms = M .total-ms;
                       total-mm = M .total-mm;
                     };
-                now = read-now sample (stepAt w (m .position)) (R .alike .now);
+                now = read-now sample (stepAt w (m .step .position)) (R .alike .now);
               };
         }
 
@@ -136,7 +136,7 @@ module _ (w : Workout) (p : TrainingProfile) (T : Taken w) (ok : profileOk p ≡
         ask-passes (standingOf q) refusals.Standing (ask (player.placesOk (q .core) kinds values) refusals.EventPlaces Accepted) st
         ∙ ap (λ (b : Bool). ask b refusals.EventPlaces Accepted) (places-are kinds values)
 
-    skip-by : (o : Option Step) → stepAt w (m .position) ≡ o → Goes w k (skipNow q) Accepted (record { machine = skipped w o m; totals = s .totals })
+    skip-by : (o : Option Step) → stepAt w (m .step .position) ≡ o → Goes w k (skipNow q) Accepted (record { machine = skipped w o m; totals = s .totals })
     unfolding skipNow skipped
     skip-by none e =
         let n : Now none (q .core) m = subst (λ (o : Option Step). Now o (q .core) m) e (R .alike .now) in
@@ -152,9 +152,9 @@ module _ (w : Workout) (p : TrainingProfile) (T : Taken w) (ok : profileOk p ≡
           same = record { workout = R .workout; alike = next-is w (each w T) (s .totals) k t true x m (R .alike .matches) (n .on) };
         })
 
-    skip-taken : (a : Answer) → Goes w k (answered a q (skipNow q)) a (unlessRefused a s (skipped w (stepAt w (m .position)) m))
+    skip-taken : (a : Answer) → Goes w k (answered a q (skipNow q)) a (unlessRefused a s (skipped w (stepAt w (m .step .position)) m))
     unfolding unlessRefused
-    skip-taken Accepted = skip-by (stepAt w (m .position)) refl
+    skip-taken Accepted = skip-by (stepAt w (m .step .position)) refl
     skip-taken (Refused r) = idle k (Refused r) q s R
 
     pub skip-is : (kinds values : ℕ) (qs : List Piece) → Goes w k (called p (skip kinds values) q) (skipAsks w kinds values s) (afterCall w p (skip kinds values) qs s)
@@ -168,7 +168,7 @@ module _ (w : Workout) (p : TrainingProfile) (T : Taken w) (ok : profileOk p ≡
     later (Distance metres) time extra more h b = tt
     later Open time extra more h b = tt
 
-    longer-same : (t : Step) (secs : ℕ) → stepAt w (m .position) ≡ some t → Same w (s .totals) k (longerBy secs 0 q .player) (withExtra (some (m .extra + secs)) m)
+    longer-same : (t : Step) (secs : ℕ) → stepAt w (m .step .position) ≡ some t → Same w (s .totals) k (longerBy secs 0 q .player) (withExtra (some (m .step .extra + secs)) m)
     unfolding withExtra
     longer-same t secs e =
         let M = R .alike .matches in
@@ -191,37 +191,37 @@ module _ (w : Workout) (p : TrainingProfile) (T : Taken w) (ok : profileOk p ≡
                       total-mm = M .total-mm;
                     };
                 now =
-                    subst (λ (o : Option Step). Now o (longerBy secs 0 q .player .core) (withExtra (some (m .extra + secs)) m)) (sym e)
+                    subst (λ (o : Option Step). Now o (longerBy secs 0 q .player .core) (withExtra (some (m .step .extra + secs)) m)) (sym e)
                     (record {
                       done = n .done;
                       finished = n .finished;
                       on = record { length = n .on .length; target = n .on .target; intensity = n .on .intensity };
-                      before = later (t .length) (m .time) (m .extra) (m .extra + secs) (omega arith) (n .before);
+                      before = later (t .length) (m .step .time) (m .step .extra) (m .step .extra + secs) (omega arith) (n .before);
                     });
               };
         }
 
-    longer-by : (t : Step) (secs : ℕ) (b : Bool) → stepAt w (m .position) ≡ some t
+    longer-by : (t : Step) (secs : ℕ) (b : Bool) → stepAt w (m .step .position) ≡ some t
         → Goes w k (ofExtend (extendedBy q (cond b (longerCore secs 0 (q .core)) (notLonger (Refused refusals.Extra) (q .core))))) (ask b refusals.Extra Accepted)
-        (unlessRefused (ask b refusals.Extra Accepted) s (withExtra (some (m .extra + secs)) m))
+        (unlessRefused (ask b refusals.Extra Accepted) s (withExtra (some (m .step .extra + secs)) m))
     unfolding unlessRefused
     longer-by t secs true e =
-        idle k Accepted (longerBy secs 0 q .player) (record { machine = withExtra (some (m .extra + secs)) m; totals = s .totals }) (longer-same t secs e)
+        idle k Accepted (longerBy secs 0 q .player) (record { machine = withExtra (some (m .step .extra + secs)) m; totals = s .totals }) (longer-same t secs e)
     longer-by t secs false e = idle k (Refused refusals.Extra) q s R
 
-    extend-in : (l : Length) (t : Step) (secs metres : ℕ) → Lasting l → stepAt w (m .position) ≡ some t
-        → Goes w k (ofExtend (extendBy secs metres l q)) (extraAsks (extraIn l secs (m .extra))) (unlessRefused (extraAsks (extraIn l secs (m .extra))) s (withExtra (extraIn l secs (m .extra)) m))
+    extend-in : (l : Length) (t : Step) (secs metres : ℕ) → Lasting l → stepAt w (m .step .position) ≡ some t
+        → Goes w k (ofExtend (extendBy secs metres l q)) (extraAsks (extraIn l secs (m .step .extra))) (unlessRefused (extraAsks (extraIn l secs (m .step .extra))) s (withExtra (extraIn l secs (m .step .extra)) m))
     unfolding extendBy extendCore
     extend-in (Time time) t secs metres y e =
         goes-by k
         (ap (λ (z : ℕ). ofExtend (extendedBy q (cond (leb (z + secs) 86400) (longerCore secs 0 (q .core)) (notLonger (Refused refusals.Extra) (q .core))))) (R .alike .matches .extra))
-        (longer-by t secs (leb (m .extra + secs) 86400) e)
+        (longer-by t secs (leb (m .step .extra + secs) 86400) e)
     extend-in (Distance way) t secs metres y e = absurd y
     extend-in Open t secs metres y e = unfold unlessRefused withExtra in idle k Accepted q (record { machine = m; totals = s .totals }) R
 
-    extend-by : (o : Option Step) (secs metres : ℕ) → stepAt w (m .position) ≡ o
-        → Goes w k (ofExtend (cond (q .core .done) (notExtended Accepted q) (extendBy secs metres (q .core .on .length) q))) (extraAsks (extraAfter o secs (m .extra)))
-        (unlessRefused (extraAsks (extraAfter o secs (m .extra))) s (withExtra (extraAfter o secs (m .extra)) m))
+    extend-by : (o : Option Step) (secs metres : ℕ) → stepAt w (m .step .position) ≡ o
+        → Goes w k (ofExtend (cond (q .core .done) (notExtended Accepted q) (extendBy secs metres (q .core .on .length) q))) (extraAsks (extraAfter o secs (m .step .extra)))
+        (unlessRefused (extraAsks (extraAfter o secs (m .step .extra))) s (withExtra (extraAfter o secs (m .step .extra)) m))
     extend-by none secs metres e =
         let n : Now none (q .core) m = subst (λ (o : Option Step). Now o (q .core) m) e (R .alike .now) in
         goes-by k (ap ofExtend (cond-true (q .core .done) (notExtended Accepted q) (extendBy secs metres (q .core .on .length) q) (n .0)))
@@ -230,13 +230,13 @@ module _ (w : Workout) (p : TrainingProfile) (T : Taken w) (ok : profileOk p ≡
         let n : Now (some t) (q .core) m = subst (λ (o : Option Step). Now o (q .core) m) e (R .alike .now) in
         goes-by k
         (ap ofExtend (cond-false (q .core .done) (notExtended Accepted q) (extendBy secs metres (q .core .on .length) q) (n .done) ∙ ap (λ (l : Length). extendBy secs metres l q) (n .on .length)))
-        (extend-in (t .length) t secs metres (each w T (m .position) t e .lasting) e)
+        (extend-in (t .length) t secs metres (each w T (m .step .position) t e .lasting) e)
 
     pub extend-is : (qs : List Piece) → Goes w k (called p extend q) (extendAsks w s) (afterCall w p extend qs s)
     unfolding called afterCall extendOf
     extend-is qs =
         goes-by k (ap ofExtend (cond-true (standingOf q) (extendNow (q .core .done) q) (notExtended (Refused refusals.Standing) q) st))
-        (extend-by (stepAt w (m .position)) 60 500 refl)
+        (extend-by (stepAt w (m .step .position)) 60 500 refl)
 
     -- Ride, one piece.
 
@@ -272,7 +272,7 @@ module _ (w : Workout) (p : TrainingProfile) (T : Taken w) (ok : profileOk p ≡
                 total-ms = ap (λ (y : ℕ). y + ms) (M .total-ms);
                 total-mm = ap (λ (y : ℕ). y + mm) (M .total-mm);
               };
-          now = totalled-now ms mm (stepAt w (m .position)) (R .alike .now);
+          now = totalled-now ms mm (stepAt w (m .step .position)) (R .alike .now);
         }
 
     abbrev rode : Piece → Rode

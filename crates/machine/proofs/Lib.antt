@@ -12,3 +12,4 @@ pub mod Lists
 pub mod Unrefused
 pub mod Demand
 pub mod Samples
+pub mod Agree

@@ -21,14 +21,14 @@ use Rattle.standing.specs.Standing.{standingOf}
 use Rattle.start.specs.Start.{fresh, newBy, newOf}
 use Rattle.keeps.specs.Keeps.{PowerFits, PlayerFits}
 use Rattle.keeps.proofs.Fresh.{keeps-standing}
-use Rattle.machine.specs.Machine.{Machine, start, stepAt, isNone, isFinished, greatest, newest, reading, withExtra, skipped, ended, ridden, closed, millisecondIn, millisecond, milliseconds, isOver, summaryOf}
-use Rattle.machine.specs.Cutting.{Call, read, ride, skip, extend, Piece, CutCall, pieceCall, callsOf, cut, WellCut, AllWellCut}
+use Rattle.machine.specs.Machine.{Machine, start, stepAt, isNone, isFinished, greatest, newest, reading, withExtra, skipped, ended, ridden, closed, millisecondIn, millisecond, milliseconds, endsNow, summaryOf}
+use Rattle.machine.specs.Cutting.{Call, read, ride, skip, extend, Piece, CutCall, pieceCall, callsOf, cut, ReadFits, ReadsFit}
 use Rattle.machine.specs.Runs.{called, Run, run, Progress, begun, readAsks, pieceAsks, skipAsks, extendAsks, extraNext, unlessRefused, afterPiece, afterPieces, afterCall, afterCalls, piecesAsk, callAsks, callsAsk}
-use Rattle.machine.specs.ThirdDemand.{compared, Taken}
+use Rattle.machine.specs.ThirdDemand.{compared}
 use Rattle.machine.proofs.Seconds.{backwards}
 use Rattle.machine.proofs.Average.{PowerIs}
 use Rattle.machine.proofs.Alike.{MeasuredIs, Now, join-events, before-start}
-use Rattle.machine.proofs.Scope.{first, each}
+use Rattle.machine.proofs.Scope.{Held, first, each}
 use Rattle.machine.proofs.Calls.{Same, Goes, read-is, skip-is, extend-is, piece-is}
 
 -- The machine's last reading fits its 16 bits.
@@ -45,12 +45,12 @@ closed-readings w s false m = refl
 one-readings : (w : Workout) (p : TrainingProfile) (o : Option Step) (m : Machine) → millisecondIn w p o m .readings ≡ m .readings
 unfolding millisecondIn closed ridden
 one-readings w p none m = refl
-one-readings w p (some s) m = closed-readings w s (isOver (s .length) (m .extra) (m .time + 1)) (ridden w p s m)
+one-readings w p (some s) m = closed-readings w s (endsNow (s .length) (m .step .extra) (m .step .time + 1)) (ridden w p s m)
 
 readings-stay : (w : Workout) (p : TrainingProfile) (n : ℕ) (m : Machine) → milliseconds w p n m .readings ≡ m .readings
 unfolding milliseconds millisecond
 readings-stay w p zero m = refl
-readings-stay w p (suc n) m = readings-stay w p n (millisecondIn w p (stepAt w (m .position)) m) ∙ one-readings w p (stepAt w (m .position)) m
+readings-stay w p (suc n) m = readings-stay w p n (millisecondIn w p (stepAt w (m .step .position)) m) ∙ one-readings w p (stepAt w (m .step .position)) m
 
 skip-readings : (w : Workout) (o : Option Step) (m : Machine) → skipped w o m .readings ≡ m .readings
 unfolding skipped ended
@@ -81,12 +81,12 @@ pieces-fit w p kinds values [] s f = f
 pieces-fit w p kinds values (e ∷ es) s f =
     pieces-fit w p kinds values es (afterPiece w p (pieceAsks w kinds values s e) e s) (piece-fits w p (pieceAsks w kinds values s e) e s f)
 
-call-fits : (w : Workout) (p : TrainingProfile) (c : Call) (es : List Piece) (s : Progress) → WellCut c es → Fits (s .machine) → Fits (afterCall w p c es s .machine)
+call-fits : (w : Workout) (p : TrainingProfile) (c : Call) (es : List Piece) (s : Progress) → ReadFits c → Fits (s .machine) → Fits (afterCall w p c es s .machine)
 unfolding afterCall reading
 call-fits w p (read sample) es s h f = unless-fits (readAsks sample) s (reading sample (s .machine)) f h
 call-fits w p (ride ms mm kinds values) es s h f = pieces-fit w p kinds values es s f
 call-fits w p (skip kinds values) es s h f =
-    unless-fits (skipAsks w kinds values s) s (skipped w (stepAt w (s .machine .position)) (s .machine)) f (fits-by (s .machine) (skipped w (stepAt w (s .machine .position)) (s .machine)) (skip-readings w (stepAt w (s .machine .position)) (s .machine)) f)
+    unless-fits (skipAsks w kinds values s) s (skipped w (stepAt w (s .machine .step .position)) (s .machine)) f (fits-by (s .machine) (skipped w (stepAt w (s .machine .step .position)) (s .machine)) (skip-readings w (stepAt w (s .machine .step .position)) (s .machine)) f)
 call-fits w p extend es s h f = unless-fits (extendAsks w s) s (withExtra (extraNext w s) (s .machine)) f (fits-by (s .machine) (withExtra (extraNext w s) (s .machine)) (extra-readings (extraNext w s) (s .machine)) f)
 
 -- Runs of joined lists.
@@ -111,7 +111,7 @@ module _ (p : TrainingProfile) where
 
 -- The run.
 
-module _ (w : Workout) (p : TrainingProfile) (T : Taken w) (ok : profileOk p ≡ true) where
+module _ (w : Workout) (p : TrainingProfile) (T : Held w) (ok : profileOk p ≡ true) where
   -- Player and machine after some calls, with the events so far.
   pub record After (k : List Event) (q : Player) (s : Progress) : Type 0 where
     pub same : Same w (s .totals) k q (s .machine)
@@ -180,7 +180,7 @@ module _ (w : Workout) (p : TrainingProfile) (T : Taken w) (ok : profileOk p ≡
       joined k (c ∷ []) (map (pieceCall kinds values) es) q (pieceAsks w kinds values s e ∷ []) (piecesAsk w p kinds values es s') s' (afterPieces w p kinds values es s') one
       (pieces-are kinds values es (k ++ compared (run p (c ∷ []) q .events)) (run p (c ∷ []) q .player) s' (one .after))
 
-  call-is : (c : Call) (es : List Piece) → WellCut c es → (k : List Event) (q : Player) (s : Progress) → After k q s
+  call-is : (c : Call) (es : List Piece) → ReadFits c → (k : List Event) (q : Player) (s : Progress) → After k q s
       → RunIs k (run p (callsOf c es) q) (callAsks w p c es s) (afterCall w p c es s)
   unfolding callsOf callAsks
   call-is (read sample) es h k q s A =
@@ -194,7 +194,7 @@ module _ (w : Workout) (p : TrainingProfile) (T : Taken w) (ok : profileOk p ≡
       one-call k extend q (extendAsks w s) (afterCall w p extend es s) (extend-is w p T ok k q s (A .same) (A .stands) es)
       (keeps extend q (player-fits A) (A .stands)) (call-fits w p extend es s h (A .fits))
 
-  pub list-is : (l : List CutCall) → AllWellCut l → (k : List Event) (q : Player) (s : Progress) → After k q s
+  pub list-is : (l : List CutCall) → ReadsFit l → (k : List Event) (q : Player) (s : Progress) → After k q s
       → RunIs k (run p (cut l) q) (callsAsk w p l s) (afterCalls w p l s)
   unfolding cut callsAsk afterCalls
   list-is [] h k q s A = unfold run in record { answers = refl; after = none-yet k q s A }
@@ -209,7 +209,7 @@ module _ (w : Workout) (p : TrainingProfile) (T : Taken w) (ok : profileOk p ≡
 
   new-is : newOf w .player ≡ fresh w
   unfolding newOf
-  new-is = ap (λ (a : Answer). newBy w a .player) (T .passes)
+  new-is = ap (λ (a : Answer). newBy w a .player) (T .taken .passes)
 
   fresh-power : PowerIs (fresh w .core .readings .power) (start .readings)
   unfolding fresh start backwards window
@@ -269,7 +269,7 @@ module _ (w : Workout) (p : TrainingProfile) (T : Taken w) (ok : profileOk p ≡
 
   fresh-after : After [] (fresh w) begun
   unfolding begun start
-  fresh-after = record { same = fresh-same; stands = keeps-standing .new w (T .twelve) (T .passes); fits = omega arith }
+  fresh-after = record { same = fresh-same; stands = keeps-standing .new w (T .twelve) (T .taken .passes); fits = omega arith }
 
   pub new-after : After [] (newOf w .player) begun
   new-after = subst (λ (q : Player). After [] q begun) (sym new-is) fresh-after
@@ -294,5 +294,5 @@ module _ (w : Workout) (p : TrainingProfile) (T : Taken w) (ok : profileOk p ≡
         «steps_done» = S .steps-done i;
         steps = S .steps-are i;
         skipped = S .skipped-are i;
-        finished = finished-is (stepAt w (s .machine .position)) q (s .machine) (A .same .alike .now) i;
+        finished = finished-is (stepAt w (s .machine .step .position)) q (s .machine) (A .same .alike .now) i;
       }

@@ -97,7 +97,7 @@ module _ (w : Workout) (each : (i : ℕ) (s : Step) → stepAt w i ≡ some s �
   kept-by : (k : List Event) {r r' : Rode} {m m' : Machine} → r ≡ r' → m ≡ m' → Kept k r' m' → Kept k r m
   kept-by k {r} {r'} {m} {m'} e f R = subst (λ (x : Rode). Kept k x m) (sym e) (subst (λ (x : Machine). Kept k r' x) (sym f) R)
 
-  now-at : (k : List Event) (s : Step) (x : Riding) (m : Machine) → Alike w b k x m → stepAt w (m .position) ≡ some s → Riding-on s (x .core) m
+  now-at : (k : List Event) (s : Step) (x : Riding) (m : Machine) → Alike w b k x m → stepAt w (m .step .position) ≡ some s → Riding-on s (x .core) m
   now-at k s x m R e = subst (λ (o : Option Step). Now o (x .core) m) e (R .now)
 
   -- the player's own part, but that it has some time
@@ -118,12 +118,12 @@ module _ (w : Workout) (each : (i : ℕ) (s : Step) → stepAt w i ≡ some s �
   unfolding closed
   closed-by t c e = ap (λ (x : Bool). closedBy x w c) e
 
-  module _ (k : List Event) (s : Step) (g : Plain s) (x : Riding) (m : Machine) (R : Alike w b k x m) (e : stepAt w (m .position) ≡ some s) where
+  module _ (k : List Event) (s : Step) (g : Plain s) (x : Riding) (m : Machine) (R : Alike w b k x m) (e : stepAt w (m .step .position) ≡ some s) where
     abbrev on-now : Riding-on s (x .core) m
     on-now = now-at k s x m R e
 
     -- within the step
-    within : (n d : ℕ) → player.isOver p (advanced (w .test) p n d x .core) ≡ false → Before (s .length) (m .extra) (m .time + n)
+    within : (n d : ℕ) → player.isOver p (advanced (w .test) p n d x .core) ≡ false → Before (s .length) (m .step .extra) (m .step .time + n)
         → Kept k (account n d x) (milliseconds w p n m)
     unfolding advanced riddenBy compared
     within n d over h =
@@ -132,7 +132,7 @@ module _ (w : Workout) (each : (i : ℕ) (s : Step) → stepAt w i ≡ some s �
         (account-kept k (x .core .lap .«step_ms») (advanced (w .test) p n d x) _ (riddenBy w p s n m) (closed-by false (advanced (w .test) p n d x .core) over)
         (subst (λ (l : List Event). Alike w b l (advanced (w .test) p n d x) (riddenBy w p s n m)) (sym (append-nil k))
         (record {
-          matches = advanced-is w b k s x m (R .matches) (on-now .on) p n d;
+          matches = advanced-is w b k s x m (R .matches) (on-now .on) p n d (g .zoned);
           now =
               subst (λ (o : Option Step). Now o (advanced (w .test) p n d x .core) (riddenBy w p s n m)) (sym e)
               (record {
@@ -144,7 +144,7 @@ module _ (w : Workout) (each : (i : ℕ) (s : Step) → stepAt w i ≡ some s �
         })))
 
     -- to its end
-    to-end : (n d : ℕ) → player.isOver p (advanced (w .test) p (suc n) d x .core) ≡ true → EndsAt (s .length) (m .extra) (m .time + suc n)
+    to-end : (n d : ℕ) → player.isOver p (advanced (w .test) p (suc n) d x .core) ≡ true → EndsAt (s .length) (m .step .extra) (m .step .time + suc n)
         → Kept k (account (suc n) d x) (milliseconds w p (suc n) m)
     unfolding advanced
     to-end n d over h =
@@ -153,7 +153,7 @@ module _ (w : Workout) (each : (i : ℕ) (s : Step) → stepAt w i ≡ some s �
         (account-kept k (x .core .lap .«step_ms») (advanced (w .test) p (suc n) d x) _ (ended w s false (riddenBy w p s (suc n) m))
         (closed-by true (advanced (w .test) p (suc n) d x .core) over)
         (next-is w each b k s false (advanced (w .test) p (suc n) d x) (riddenBy w p s (suc n) m)
-        (advanced-is w b k s x m (R .matches) (on-now .on) p (suc n) d)
+        (advanced-is w b k s x m (R .matches) (on-now .on) p (suc n) d (g .zoned))
         (record { length = on-now .on .length; target = on-now .on .target; intensity = on-now .on .intensity })))
 
     over-is : (n d : ℕ) (l : Length) (t : Bool) → s .length ≡ l → overBy l p (advanced (w .test) p n d x .core) ≡ t
@@ -161,19 +161,19 @@ module _ (w : Workout) (each : (i : ℕ) (s : Step) → stepAt w i ≡ some s �
     unfolding player.isOver advanced
     over-is n d l t f h = ap (λ (y : Length). overBy y p (advanced (w .test) p n d x .core)) (on-now .on .length ∙ f) ∙ h
 
-    timed : (t : Bool) (secs n d : ℕ) → s .length ≡ Time secs → m .time + suc n ≤ endOf secs (m .extra)
+    timed : (t : Bool) (secs n d : ℕ) → s .length ≡ Time secs → m .step .time + suc n ≤ endOf secs (m .step .extra)
         → leb ((secs + x .core .lap .«extra_s») * 1000) (x .core .lap .«step_ms» + suc n) ≡ t → Kept k (account (suc n) d x) (milliseconds w p (suc n) m)
     unfolding advanced
     timed true secs n d f h c =
-        let z : m .time + suc n ≡ endOf secs (m .extra) =
+        let z : m .step .time + suc n ≡ endOf secs (m .step .extra) =
         omega (arith, leb-true ((secs + x .core .lap .«extra_s») * 1000) (x .core .lap .«step_ms» + suc n) c, R .matches .extra, R .matches .time) in
         to-end n d (over-is (suc n) d (Time secs) true f c) (rw f z)
     timed false secs n d f h c =
-        let z : m .time + suc n < endOf secs (m .extra) =
+        let z : m .step .time + suc n < endOf secs (m .step .extra) =
         omega (arith, leb-false ((secs + x .core .lap .«extra_s») * 1000) (x .core .lap .«step_ms» + suc n) c, R .matches .extra, R .matches .time) in
         within (suc n) d (over-is (suc n) d (Time secs) false f c) (rw f z)
 
-    part-by : (l : Length) (n d : ℕ) → s .length ≡ l → Lasting l → Upto l (m .extra) (m .time + suc n) → Kept k (account (suc n) d x) (milliseconds w p (suc n) m)
+    part-by : (l : Length) (n d : ℕ) → s .length ≡ l → Lasting l → Upto l (m .step .extra) (m .step .time + suc n) → Kept k (account (suc n) d x) (milliseconds w p (suc n) m)
     unfolding advanced
     part-by (Time secs) n d f y h = timed (leb ((secs + x .core .lap .«extra_s») * 1000) (x .core .lap .«step_ms» + suc n)) secs n d f h refl
     part-by (Distance metres) n d f y h = absurd y
@@ -184,22 +184,22 @@ module _ (w : Workout) (each : (i : ℕ) (s : Step) → stepAt w i ≡ some s �
         ∙ never-failed (s .target) p _ _ (g .flat)))
         (rw f tt)
 
-    part-is : (a d : ℕ) → 0 < a → Upto (s .length) (m .extra) (m .time + a) → Kept k (account a d x) (milliseconds w p a m)
+    part-is : (a d : ℕ) → 0 < a → Upto (s .length) (m .step .extra) (m .step .time + a) → Kept k (account a d x) (milliseconds w p a m)
     part-is zero d z h = absurd (omega (arith, z))
     part-is (suc n) d z h = part-by (s .length) n d refl (g .lasting) h
 
-    until-is : (n mm : ℕ) → Share (s .length) (m .extra) (m .time) (suc n) (untilEnd (x .core) (suc n) mm .ms .0)
+    until-is : (n mm : ℕ) → Share (s .length) (m .step .extra) (m .step .time) (suc n) (untilEnd (x .core) (suc n) mm .ms .0)
     unfolding untilEnd
     until-is n mm =
-        subst (λ (y : Part). Share (s .length) (m .extra) (m .time) (suc n) (y .ms .0))
+        subst (λ (y : Part). Share (s .length) (m .step .extra) (m .step .time) (suc n) (y .ms .0))
         (sym (ap₂ (λ (done : Bool) (l : Length). cond done (part (suc n) mm) (shareOf l (x .core .lap) (suc n) mm)) (on-now .done) (on-now .on .length)))
-        (share-is (s .length) (x .core .lap) (m .extra) (m .time) n mm (g .lasting) (R .matches .extra) (R .matches .time) (on-now .before))
+        (share-is (s .length) (x .core .lap) (m .step .extra) (m .step .time) n mm (g .lasting) (R .matches .extra) (R .matches .time) (on-now .before))
 
     -- a part to the step's end brings the next position
-    moved : (a : ℕ) → 0 < a → EndsAt (s .length) (m .extra) (m .time + a) → milliseconds w p a m .position ≡ m .position + 1
+    moved : (a : ℕ) → 0 < a → EndsAt (s .length) (m .step .extra) (m .step .time + a) → milliseconds w p a m .step .position ≡ m .step .position + 1
     unfolding ended riddenBy
     moved zero z h = absurd (omega (arith, z))
-    moved (suc n) z h = ap (λ (y : Machine). y .position) (milliseconds-end w p s (g .flat) n m (R .matches .measured .small) e h)
+    moved (suc n) z h = ap (λ (y : Machine). y .step .position) (milliseconds-end w p s (g .flat) n m (R .matches .measured .small) e h)
 
   round-is : (q : Part) (x : Riding) → 0 < q .ms .0 → roundOf w p q x ≡ account (q .ms .0) (q .mm .0) x
   unfolding roundOf
@@ -227,26 +227,26 @@ module _ (w : Workout) (each : (i : ℕ) (s : Step) → stepAt w i ≡ some s �
   -- Rounds enough for the steps that are left.
   module _ (past : (i : ℕ) → playedLen w ≤ i → stepAt w i ≡ none) where
     abbrev Enough : ℕ → ℕ → Machine → Type 0
-    Enough n ms m = (ms ≡ 0) ⊎ (playedLen w < m .position + n)
+    Enough n ms m = (ms ≡ 0) ⊎ (playedLen w < m .step .position + n)
 
     abbrev Loop : ℕ → Type 0
     Loop n = (ms mm : ℕ) (k : List Event) (x : Riding) (m : Machine) → Alike w b k x m → Enough n ms m → Kept k (rounds w p n ms mm x) (milliseconds w p ms m)
 
-    loop-step : (s : Step) (n left mm : ℕ) → Loop n → (k : List Event) (x : Riding) (m : Machine) → Alike w b k x m → stepAt w (m .position) ≡ some s
+    loop-step : (s : Step) (n left mm : ℕ) → Loop n → (k : List Event) (x : Riding) (m : Machine) → Alike w b k x m → stepAt w (m .step .position) ≡ some s
         → Enough (suc n) (suc left) m → Kept k (rounds w p (suc n) (suc left) mm x) (milliseconds w p (suc left) m)
     loop-step s n left mm ih k x m R e h =
-        let g : Plain s = each (m .position) s e in
+        let g : Plain s = each (m .step .position) s e in
         let a : ℕ = untilEnd (x .core) (suc left) mm .ms .0 in
         let d : ℕ = untilEnd (x .core) (suc left) mm .mm .0 in
-        let S : Share (s .length) (m .extra) (m .time) (suc left) a = until-is k s g x m R e left mm in
+        let S : Share (s .length) (m .step .extra) (m .step .time) (suc left) a = until-is k s g x m R e left mm in
         let one : Rode = account a d x in
         let rest : Rode = rounds w p n (suc left - a) (mm - d) (ridingOf one) in
         let R1 : Kept k one (milliseconds w p a m) = part-is k s g x m R e a d (S .some-time) (S .upto) in
         let v : Enough n (suc left - a) (milliseconds w p a m) =
         ⊎-elim (λ (q : a ≡ suc left). inl (omega arith))
-        (λ (z : EndsAt (s .length) (m .extra) (m .time + a)).
-        let u : milliseconds w p a m .position ≡ m .position + 1 = moved k s g x m R e a (S .some-time) z in
-        ⊎-elim (λ (q : suc left ≡ 0). absurd (omega arith)) (λ (q : playedLen w < m .position + suc n). inr (omega arith)) h) (S .or-ends) in
+        (λ (z : EndsAt (s .length) (m .step .extra) (m .step .time + a)).
+        let u : milliseconds w p a m .step .position ≡ m .step .position + 1 = moved k s g x m R e a (S .some-time) z in
+        ⊎-elim (λ (q : suc left ≡ 0). absurd (omega arith)) (λ (q : playedLen w < m .step .position + suc n). inr (omega arith)) h) (S .or-ends) in
         let on : isStopped (x .core .done) (suc left) ≡ false =
         or-neither (x .core .done) (eqb (suc left) 0) (now-at k s x m R e .done) (ne-eqb (suc left) 0 (λ q. omega arith)) in
         let q : rounds w p (suc n) (suc left) mm x ≡ joined one rest = rounds-next n (suc left) mm x on (S .some-time) in
@@ -257,7 +257,7 @@ module _ (w : Workout) (each : (i : ℕ) (s : Step) → stepAt w i ≡ some s �
         (subst (λ (l : List Event). Alike w b l (ridingOf rest) (milliseconds w p (suc left - a) (milliseconds w p a m))) (join-events k (one .events) (rest .events)) R2)
 
     loop-by : (o : Option Step) (n ms mm : ℕ) → ((i : ℕ) → n ≡ suc i → Loop i) → (k : List Event) (x : Riding) (m : Machine) → Alike w b k x m
-        → stepAt w (m .position) ≡ o → Enough n ms m → Kept k (rounds w p n ms mm x) (milliseconds w p ms m)
+        → stepAt w (m .step .position) ≡ o → Enough n ms m → Kept k (rounds w p n ms mm x) (milliseconds w p ms m)
     loop-by none n ms mm ih k x m R e h =
         let now : Now none (x .core) m = subst (λ (o : Option Step). Now o (x .core) m) e (R .now) in
         stopped n ms mm k x m R (rounds-stop n ms mm x (or-left (x .core .done) (eqb ms 0) (now .0))) (milliseconds-done w p ms m e)
@@ -265,20 +265,20 @@ module _ (w : Workout) (each : (i : ℕ) (s : Step) → stepAt w i ≡ some s �
         stopped n 0 mm k x m R (rounds-stop n 0 mm x (or-right (x .core .done) (eqb 0 0) refl)) (unfold milliseconds in refl)
     loop-by (some s) zero (suc left) mm ih k x m R e h =
         ⊎-elim (λ (q : suc left ≡ 0). absurd (omega arith))
-        (λ (q : playedLen w < m .position + 0). absurd (clash (sym e ∙ past (m .position) (omega arith)))) h
+        (λ (q : playedLen w < m .step .position + 0). absurd (clash (sym e ∙ past (m .step .position) (omega arith)))) h
       where
         clash : some s ≡ none → ⊥
         clash c = let z : _≡_ {A = ℕ} 0 1 = cc in omega arith
     loop-by (some s) (suc n) (suc left) mm ih k x m R e h = loop-step s n left mm (ih n refl) k x m R e h
 
     loop-all : (n : ℕ) → Loop n
-    loop-all zero ms mm k x m R h = loop-by (stepAt w (m .position)) zero ms mm (λ i q. absurd (omega arith)) k x m R refl h
+    loop-all zero ms mm k x m R h = loop-by (stepAt w (m .step .position)) zero ms mm (λ i q. absurd (omega arith)) k x m R refl h
     loop-all (suc n) ms mm k x m R h =
-        loop-by (stepAt w (m .position)) (suc n) ms mm (λ i q. subst Loop (before q) (loop-all n)) k x m R refl h
+        loop-by (stepAt w (m .step .position)) (suc n) ms mm (λ i q. subst Loop (before q) (loop-all n)) k x m R refl h
       where
         before : {i : ℕ} → suc n ≡ suc i → n ≡ i
         before z = omega arith
 
-    pub loop-is : (n ms mm : ℕ) (k : List Event) (x : Riding) (m : Machine) → Alike w b k x m → playedLen w < m .position + n
+    pub loop-is : (n ms mm : ℕ) (k : List Event) (x : Riding) (m : Machine) → Alike w b k x m → playedLen w < m .step .position + n
         → Alike w b (k ++ compared (rounds w p n ms mm x .events)) (ridingOf (rounds w p n ms mm x)) (milliseconds w p ms m)
     loop-is n ms mm k x m R h = loop-all n ms mm k x m R (inr h)

@@ -1,18 +1,21 @@
--- What the third demand's workouts play: steps that are timed or open, without ramps, one at each position below the played length.
+-- What the third demand's workouts play: steps that are timed or open, without ramps, heart zones from 1 to 5, one at each position
+-- below the played length.
 use mathlib.Core.Path.{_≡_, refl, sym, ap, _∙_, subst}
-use mathlib.Core.Bool.{Bool, true, false, cond, not}
+use mathlib.Core.Bool.{Bool, true, false, cond, not, _&&_}
 use mathlib.Core.Option.{Option, none, some}
 use mathlib.Core.List.{List}
 use Prim.Native.Nat.{ℕ, _≤_, _<_}
 use native.Mathlib.Omega.{arith}
-use lib.Dec.{ltb}
+use lib.Dec.{ltb, leb}
 use lib.ListN.{length, getD, length-take}
-use borrow.Author.Tests.{ltb-true, lt-ltb, le-ltb}
+use borrow.Author.Tests.{leb-true, ltb-true, lt-ltb, le-ltb}
 use Rattle.common.specs.Lists.{all}
 use Rattle.common.proofs.Tests.{and-left, and-right}
 use Rattle.common.proofs.Lists.{all-get}
 use Rattle.model.specs.declared.Length.{Length}
 use Rattle.model.specs.declared.Length.the-variants.{Time, Distance, Open}
+use Rattle.model.specs.declared.Target.{Target}
+use Rattle.model.specs.declared.Target.the-variants.{Free, Ftp, Watts, HeartZone, Lthr, Cadence, Ramp, FtpRamp}
 use Rattle.model.specs.declared.Step.{Step}
 use Rattle.model.specs.declared.Workout.{Workout}
 use Rattle.model.specs.Workout.{noStep, stepsOf}
@@ -23,12 +26,13 @@ use Rattle.order.specs.declared.PlayedOption.{PlayedOption}
 use Rattle.order.specs.Order as order
 use Rattle.order.specs.Order.{orderOf, nth, nothing, playedBy, playedOf, playedLen}
 use Rattle.order.proofs.Within.{playing-order}
-use Rattle.validation.specs.Sound.{lengthOk}
-use Rattle.validation.proofs.Passes.{Passes, passes, played-sound}
+use Rattle.form.specs.Form.{isOpen}
+use Rattle.validation.specs.Sound.{lengthOk, targetOk, stepOk}
+use Rattle.validation.proofs.Passes.{Passes, passes}
 use Rattle.machine.specs.Machine.{stepOf, stepAt}
 use Rattle.machine.specs.ThirdDemand.{isDistance, isRamp, isPlain, Taken}
 use Rattle.machine.proofs.AtOnce.{apart}
-use Rattle.machine.proofs.Alike.{Lasting, Plain}
+use Rattle.machine.proofs.Alike.{Lasting, Zoned, Plain}
 
 -- what holds of all of a workout's steps holds of a played one
 by-place : (test : Step → Bool) (steps : List Step) (o : PlaceOption) → all test steps ≡ true → playedBy steps o .found ≡ true
@@ -53,13 +57,28 @@ lasting-is (Time secs) d h = ltb-true 0 secs h
 lasting-is (Distance metres) d h = absurd (apart (sym d))
 lasting-is Open d h = tt
 
+zoned-is : (target : Target) (untimed : Bool) → targetOk target untimed ≡ true → Zoned target
+zoned-is Free untimed h = tt
+zoned-is (Ftp low high) untimed h = tt
+zoned-is (Watts low high) untimed h = tt
+zoned-is (HeartZone zone) untimed h = (leb-true 1 zone (and-left (leb 1 zone) (leb zone 5) h), leb-true zone 5 (and-right (leb 1 zone) (leb zone 5) h))
+zoned-is (Lthr low high) untimed h = tt
+zoned-is (Cadence low high) untimed h = tt
+zoned-is (Ramp start step every) untimed h = tt
+zoned-is (FtpRamp start step every) untimed h = tt
+
 not-true : (b : Bool) → not b ≡ true → b ≡ false
 not-true true e = sym e
 not-true false e = refl
 
-module _ (w : Workout) (T : Taken w) where
+-- A workout that the demand takes, of which memory holds twelve steps.
+pub record Held (w : Workout) : Type 0 where
+  pub taken : Taken w
+  pub twelve : length (w .steps) ≡ 12
+
+module _ (w : Workout) (T : Held w) where
   valid : Passes w
-  valid = passes w (T .passes)
+  valid = passes w (T .taken .passes)
 
   pub few : playedLen w ≤ 96
   few = valid .most
@@ -83,9 +102,13 @@ module _ (w : Workout) (T : Taken w) where
   plain-at : (i : ℕ) → playedOf w i .found ≡ true → Plain (playedOf w i .played .step)
   plain-at i found =
       let s : Step = playedOf w i .played .step in
-      let both : isPlain s ≡ true = played-all isPlain w i (T .plain) found in
+      let both : isPlain s ≡ true = played-all isPlain w i (T .taken .plain) found in
+      let sound : lengthOk (s .length) && targetOk (s .target) (isOpen (s .length)) ≡ true = unfold stepOk in played-all stepOk w i (valid .steps) found in
       record {
-        lasting = lasting-is (s .length) (and-left (not (isDistance (s .length))) (not (isRamp (s .target))) both) (played-sound w i valid found);
+        lasting =
+            lasting-is (s .length) (and-left (not (isDistance (s .length))) (not (isRamp (s .target))) both)
+            (and-left (lengthOk (s .length)) (targetOk (s .target) (isOpen (s .length))) sound);
+        zoned = zoned-is (s .target) (isOpen (s .length)) (and-right (lengthOk (s .length)) (targetOk (s .target) (isOpen (s .length))) sound);
         flat = not-true (isRamp (s .target)) (and-right (not (isDistance (s .length))) (not (isRamp (s .target))) both);
       }
 

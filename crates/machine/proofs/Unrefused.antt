@@ -38,25 +38,13 @@ unfolding cut alone
 alone-is [] = refl
 alone-is (c ∷ cs) = own-calls c (cut (alone cs)) ∙ ap (λ (rest : List Call). c ∷ rest) (alone-is cs)
 
-own-well : (c : Call) (es : List Piece) → WellCut c es → WellCut c (own c)
-unfolding own sumMs sumMm
-own-well (read sample) es h = h
-own-well (ride ms mm kinds values) es h = record { some = omega arith; ms-sum = add-zero ms; mm-sum = add-zero mm }
-own-well (skip kinds values) es h = tt
-own-well extend es h = tt
-
-pub uncut-well : (l : List CutCall) → AllWellCut l → AllWellCut (alone (uncut l))
-unfolding alone uncut
-uncut-well [] h = tt
-uncut-well (c ∷ l) h = (own-well (c .call) (c .pieces) (h .0), uncut-well l (h .1))
-
 -- Lists of answers.
 
-accepted-left : (xs ys : List Answer) → AllAccepted (xs ++ ys) → AllAccepted xs
+pub accepted-left : (xs ys : List Answer) → AllAccepted (xs ++ ys) → AllAccepted xs
 accepted-left [] ys h = tt
 accepted-left (x ∷ xs) ys h = (h .0, accepted-left xs ys (h .1))
 
-accepted-right : (xs ys : List Answer) → AllAccepted (xs ++ ys) → AllAccepted ys
+pub accepted-right : (xs ys : List Answer) → AllAccepted (xs ++ ys) → AllAccepted ys
 accepted-right [] ys h = h
 accepted-right (x ∷ xs) ys h = accepted-right xs ys (h .1)
 
@@ -208,7 +196,7 @@ module _ (w : Workout) (p : TrainingProfile) where
   unfolding callAsks afterCall
   skip-beside kinds values es f g e t a =
       let b : skipAsks w kinds values g ≡ Accepted = ap (λ (m : Machine). ask (placesOk w m kinds values) refusals.EventPlaces Accepted) e ∙ a .0 in
-      let after : Machine → Machine = λ m. skipped w (stepAt w (m .position)) m in
+      let after : Machine → Machine = λ m. skipped w (stepAt w (m .step .position)) m in
       beside-by (skip kinds values) es f g (record { machine = after (f .machine); totals = f .totals }) (record { machine = after (g .machine); totals = g .totals })
       (b, tt) (unless-taken (skipAsks w kinds values g) g (after (g .machine)) b) (unless-taken (skipAsks w kinds values f) f (after (f .machine)) (a .0))
       (ap after e) t
@@ -217,7 +205,7 @@ module _ (w : Workout) (p : TrainingProfile) where
       → AllAccepted (callAsks w p extend (own extend) f) → Beside extend es f g
   unfolding callAsks afterCall
   extend-beside es f g e t a =
-      let next : Machine → Option ℕ = λ m. extraAfter (stepAt w (m .position)) 60 (m .extra) in
+      let next : Machine → Option ℕ = λ m. extraAfter (stepAt w (m .step .position)) 60 (m .step .extra) in
       let b : extendAsks w g ≡ Accepted = ap (λ (m : Machine). extraAsks (next m)) e ∙ a .0 in
       let after : Machine → Machine = λ m. withExtra (next m) m in
       beside-by extend es f g (record { machine = after (f .machine); totals = f .totals }) (record { machine = after (g .machine); totals = g .totals })

@@ -58,9 +58,9 @@ pub record Cuts (ms mm : ℕ) (qs : List Piece) : Type 0 where
   pub ms-sum : sumMs qs ≡ ms
   pub mm-sum : sumMm qs ≡ mm
 
--- Of a read, that its power fits the 16 bits that it has in memory.
+-- "Cut its rides at whatever points into shorter ones of the same total time and distance"
 abbrev pub WellCut : Call → List Piece → Type 0
-WellCut (read sample) qs = orZero (sample .«power_watts») < 65536
+WellCut (read sample) qs = Unit
 WellCut (ride ms mm kinds values) qs = Cuts ms mm qs
 WellCut (skip kinds values) qs = Unit
 WellCut extend qs = Unit
@@ -68,6 +68,17 @@ WellCut extend qs = Unit
 abbrev pub AllWellCut : List CutCall → Type 0
 AllWellCut [] = Unit
 AllWellCut (c ∷ l) = WellCut (c .call) (c .pieces) × AllWellCut l
+
+-- What the types hold: a reading's power has 16 bits.
+abbrev pub ReadFits : Call → Type 0
+ReadFits (read sample) = orZero (sample .«power_watts») < 65536
+ReadFits (ride ms mm kinds values) = Unit
+ReadFits (skip kinds values) = Unit
+ReadFits extend = Unit
+
+abbrev pub ReadsFit : List CutCall → Type 0
+ReadsFit [] = Unit
+ReadsFit (c ∷ l) = ReadFits (c .call) × ReadsFit l
 
 -- A list as it stands: each ride is its own one piece.
 

@@ -111,7 +111,7 @@ extraAsks (some extra) = ask (leb extra 86400) refusals.Extra Accepted
 
 -- "Extend: 60 s more"
 abbrev pub extraNext : Workout → Progress → Option ℕ
-extraNext w s = extraAfter (stepAt w (s .machine .position)) 60 (s .machine .extra)
+extraNext w s = extraAfter (stepAt w (s .machine .step .position)) 60 (s .machine .step .extra)
 
 abbrev pub extendAsks : Workout → Progress → Answer
 extendAsks w s = extraAsks (extraNext w s)
@@ -138,7 +138,7 @@ afterPieces w p kinds values (q ∷ qs) s = afterPieces w p kinds values qs (aft
 unfoldable pub afterCall : Workout → TrainingProfile → Call → List Piece → Progress → Progress
 afterCall w p (read sample) qs s = unlessRefused (readAsks sample) s (reading sample (s .machine))
 afterCall w p (ride ms mm kinds values) qs s = afterPieces w p kinds values qs s
-afterCall w p (skip kinds values) qs s = unlessRefused (skipAsks w kinds values s) s (skipped w (stepAt w (s .machine .position)) (s .machine))
+afterCall w p (skip kinds values) qs s = unlessRefused (skipAsks w kinds values s) s (skipped w (stepAt w (s .machine .step .position)) (s .machine))
 afterCall w p extend qs s = unlessRefused (extendAsks w s) s (withExtra (extraNext w s) (s .machine))
 
 unfoldable pub afterCalls : Workout → TrainingProfile → List CutCall → Progress → Progress

@@ -1,4 +1,5 @@
--- Some rides, and what the machine makes of them.
+-- Some rides, and what the machine makes of them; and that the third demand and the laws beside it are of something: a workout that is
+-- taken, a list cut in two ways with nothing refused, a call that is refused.
 use mathlib.Core.Path.{_≡_}
 use mathlib.Core.Bool.{true}
 use mathlib.Core.List.{List, [], _∷_, _++_}
@@ -8,22 +9,29 @@ use Rattle.refusal.specs.declared.Answer.the-variants.{Accepted, Refused}
 use Rattle.refusal.specs.declared.Refusal.the-variants as refusals
 use Rattle.names.specs.Names.{emptyName}
 use Rattle.zones.specs.declared.TrainingProfile.{TrainingProfile}
+use Rattle.zones.specs.Zones.{profileOk}
 use Rattle.model.specs.declared.Intensity.{Intensity}
 use Rattle.model.specs.declared.Intensity.the-variants.{Work}
 use Rattle.model.specs.declared.Intensity.the-variants as intensities
 use Rattle.model.specs.declared.Length.the-variants.{Time}
 use Rattle.model.specs.declared.Target.{Target}
-use Rattle.model.specs.declared.Target.the-variants.{Free, Watts}
+use Rattle.model.specs.declared.Target.the-variants.{Free, Watts, HeartZone}
+use Rattle.model.specs.declared.Metric.the-variants as metrics
+use Rattle.model.specs.Target.{bandOf}
 use Rattle.model.specs.declared.Test.{Test}
 use Rattle.model.specs.declared.Test.the-variants as tests
 use Rattle.model.specs.declared.Step.{Step}
 use Rattle.model.specs.declared.Workout.{Workout}
 use Rattle.model.specs.Workout.{noStep, noBlock}
+use Rattle.power.specs.declared.ReadingOption.{ReadingOption}
 use Rattle.power.specs.declared.ReadingOption.the-variants.{None, Some}
-use Rattle.events.specs.Events.{started, finished, ftp}
-use Rattle.machine.specs.Machine.{Machine, summaryOf}
-use Rattle.machine.specs.Cutting.{Call, read, ride, skip, extend, CutCall}
-use Rattle.machine.specs.Runs.{begun, afterCalls, callsAsk}
+use Rattle.readings.specs.declared.Sample.{Sample}
+use Rattle.events.specs.Events.{Event}
+use Rattle.start.specs.Start.{newOf}
+use Rattle.machine.specs.Machine.{Machine, Judged, isUnder, isIn, isOver, isNothing, readingFor, judgedBy, summaryOf}
+use Rattle.machine.specs.Cutting.{Call, read, ride, skip, extend, CutCall, uncut, AllWellCut}
+use Rattle.machine.specs.Runs.{called, begun, afterCalls, callsAsk}
+use Rattle.machine.specs.ThirdDemand.{Taken, InMemory, AllAccepted}
 
 abbrev pub step : Intensity → ℕ → Target → Step
 step intensity secs target = record { intensity = intensity; length = Time secs; target = target; note = emptyName }
@@ -70,7 +78,56 @@ single = workout tests.None (step Work 2 (Watts 100 200) ∷ [])
 abbrev pub pair : Test → Workout
 pair test = workout test (step intensities.Test 2 Free ∷ step intensities.Test 1 Free ∷ [])
 
+-- The same list, its rides cut otherwise.
+abbrev pub cutOnce : List CutCall
+cutOnce = readWatts 60 ∷ rideIn 500 200 300 ∷ other extend ∷ other (skip 193 193) ∷ []
+
+abbrev pub cutAgain : List CutCall
+cutAgain = readWatts 60 ∷ rideIn 500 0 500 ∷ other extend ∷ other (skip 193 193) ∷ []
+
+-- Events by document 01's numbers: "kinds (0 countdown, 1 started, 2 finished, 3 FTP) and 16-bit values (seconds, position, 0, watts)".
+abbrev pub event : ℕ → ℕ → Event
+event kind value = record { kind = kind; value = value }
+
+-- What is said of a rider with a heart rate, a cadence or power under a target.
+abbrev pub judged : Target → Sample → Judged
+judged target sample = judgedBy target (bandOf target profile 0) profile (sample ∷ [])
+
+abbrev pub watts : ReadingOption → Sample
+watts power = record { «power_watts» = power; «heart_bpm» = None; «cadence_tenths» = None }
+
+abbrev pub heart : ℕ → Sample
+heart bpm = record { «power_watts» = None; «heart_bpm» = Some bpm; «cadence_tenths» = None }
+
+abbrev pub tenths : ℕ → Sample
+tenths cadence = record { «power_watts» = None; «heart_bpm» = None; «cadence_tenths» = Some cadence }
+
 pub record Samples : Type 0 where
+  -- what the third demand takes
+  pub taken : Taken single
+  pub profiled : profileOk profile ≡ true
+  pub well-cut : AllWellCut cutOnce × AllWellCut cutAgain
+  pub in-memory : InMemory single cutOnce
+  -- one list, cut in two ways, and nothing refused
+  pub one-list : uncut cutOnce ≡ uncut cutAgain
+  pub not-refused : AllAccepted (callsAsk single profile cutOnce begun) × AllAccepted (callsAsk single profile cutAgain begun)
+  -- a player's call that is refused
+  pub skip-refused : called profile (skip 193 192) (newOf single .player) .answer ≡ Refused refusals.EventPlaces
+  -- "Readings 100, 101: 101.", and of three; one that is absent counts for nothing
+  pub two : readingFor metrics.Power (watts (Some 101) ∷ watts (Some 100) ∷ []) ≡ Some 101
+  pub three : readingFor metrics.Power (watts (Some 101) ∷ watts (Some 101) ∷ watts (Some 100) ∷ []) ≡ Some 101
+  pub absent : readingFor metrics.Power (watts (Some 100) ∷ watts None ∷ watts (Some 150) ∷ []) ≡ Some 125
+  pub lone : readingFor metrics.Power (watts None ∷ watts None ∷ watts (Some 150) ∷ []) ≡ Some 150
+  pub no-power : readingFor metrics.Power (watts None ∷ []) ≡ None
+  -- half a turn goes up
+  pub half-turn : (readingFor metrics.Cadence (tenths 895 ∷ []) ≡ Some 90) × (readingFor metrics.Cadence (tenths 894 ∷ []) ≡ Some 89)
+  -- both ends of a band are in
+  pub low-end : (judged (Watts 100 200) (watts (Some 99)) ≡ isUnder) × (judged (Watts 100 200) (watts (Some 100)) ≡ isIn)
+  pub high-end : (judged (Watts 100 200) (watts (Some 200)) ≡ isIn) × (judged (Watts 100 200) (watts (Some 201)) ≡ isOver)
+  -- "at LTHR 160 zone 1 shows 104 to 129, and 90 bpm is In."
+  pub zone-1 : (judged (HeartZone 1) (heart 90) ≡ isIn) × (judged (HeartZone 1) (heart 129) ≡ isIn) × (judged (HeartZone 1) (heart 130) ≡ isOver)
+  pub zone-2 : (judged (HeartZone 2) (heart 129) ≡ isUnder) × (judged (HeartZone 2) (heart 130) ≡ isIn)
+  pub no-heart : judged (HeartZone 1) (watts (Some 150)) ≡ isNothing
   -- under, then in: the average of 60 and 150 is 105
   pub tallies : summaryOf single (after single (readWatts 60 ∷ rideIn 500 200 300 ∷ readWatts 150 ∷ rideIn 2500 1000 1500 ∷ []))
       ≡ record {
@@ -85,14 +142,14 @@ pub record Samples : Type 0 where
         finished = true;
       }
   -- "1,200 s test at 53 W: 50; 52: none", of 2 s; sums run on into the next test step
-  pub tested : after (pair tests.Twenty) (readWatts 53 ∷ rideIn 4000 2500 1500 ∷ []) .events ≡ ftp 50 ∷ started 1 ∷ ftp 50 ∷ finished ∷ []
-  pub below : after (pair tests.Twenty) (readWatts 52 ∷ rideIn 4000 2500 1500 ∷ []) .events ≡ started 1 ∷ finished ∷ []
+  pub tested : after (pair tests.Twenty) (readWatts 53 ∷ rideIn 4000 2500 1500 ∷ []) .given .events ≡ event 3 50 ∷ event 1 1 ∷ event 3 50 ∷ event 2 0 ∷ []
+  pub below : after (pair tests.Twenty) (readWatts 52 ∷ rideIn 4000 2500 1500 ∷ []) .given .events ≡ event 1 1 ∷ event 2 0 ∷ []
   -- a skipped step is marked, and gives no `Twenty` result
-  pub skips : after (pair tests.Twenty) (readWatts 53 ∷ rideIn 1900 1000 900 ∷ other (skip 193 193) ∷ []) .events ≡ started 1 ∷ []
-  pub marked : after (pair tests.Twenty) (readWatts 53 ∷ rideIn 1900 1000 900 ∷ other (skip 193 193) ∷ []) .skipped ≡ 1
+  pub skips : after (pair tests.Twenty) (readWatts 53 ∷ rideIn 1900 1000 900 ∷ other (skip 193 193) ∷ []) .given .events ≡ event 1 1 ∷ []
+  pub marked : after (pair tests.Twenty) (readWatts 53 ∷ rideIn 1900 1000 900 ∷ other (skip 193 193) ∷ []) .given .skipped ≡ 1
   -- 60 s more
-  pub longer : after single (other extend ∷ rideIn 3000 1500 1500 ∷ []) .time ≡ 3000
+  pub longer : after single (other extend ∷ rideIn 3000 1500 1500 ∷ []) .step .time ≡ 3000
   -- a piece is refused 12, a skip without places 14, and neither does anything
   pub refused : callsAsk single profile (tooFar ∷ other (skip 193 192) ∷ []) begun
       ≡ Refused refusals.Update ∷ Accepted ∷ Refused refusals.EventPlaces ∷ []
-  pub ridden : after single (tooFar ∷ other (skip 193 192) ∷ []) .time ≡ 500
+  pub ridden : after single (tooFar ∷ other (skip 193 192) ∷ []) .step .time ≡ 500

@@ -1,4 +1,17 @@
--- The third demand: one claim about a whole list of calls and its cutting.
+-- The third demand: one claim about a whole list of calls and its cutting. In plain words:
+--
+-- Take a workout without distance steps and ramp targets that passes questions 5 to 9 (`Taken`), a profile that passes question 10
+-- (`profileOk`), and a list of reads, rides, skips and extends with any arguments (`List CutCall`). Each ride of the list comes with
+-- the pieces that it is cut into: one or more rides whose times and distances add up to its own (`AllWellCut`). `InMemory` says only
+-- what a computer's types hold anyway. Play the cut list on a fresh player (`cutRun`), and hand the uncut list with the pieces to the
+-- millisecond machine (`afterCalls`). Then (`Claim`), after the first n calls of the uncut list, for every n from 0 on (`After`):
+--   the record written of the player is, byte for byte, the record written of the machine (`bytes`);
+--   the started, finished and FTP events that the player has given are the machine's, in order (`events`);
+--   the calls of the cut list were refused, or not, as the machine's own questions say (`answers`);
+-- and where nothing of the uncut list, played as it stands, is refused, nothing of the cut one is (`unrefused`).
+--
+-- The statement itself, `ThirdDemand`, stands below those definitions; `machine::third_demand` proves it. docs/READING.md has a legend
+-- of the notation.
 use mathlib.Core.Path.{_≡_}
 use mathlib.Core.Bool.{Bool, true, false, cond, _&&_, not}
 use mathlib.Core.List.{List, [], _∷_, reverse}
@@ -24,7 +37,7 @@ use Rattle.state.specs.declared.Player.{Player}
 use Rattle.start.specs.Start.{newOf}
 use Rattle.history.specs.Record.{recordOf, recordBytes}
 use Rattle.machine.specs.Machine.{Machine, greatest, milliseconds, summaryOf}
-use Rattle.machine.specs.Cutting.{Call, CutCall, Piece, uncut, cut, sumMs, AllWellCut}
+use Rattle.machine.specs.Cutting.{Call, CutCall, Piece, uncut, cut, sumMs, AllWellCut, ReadsFit}
 use Rattle.machine.specs.Runs.{called, Run, run, Progress, begun, afterPieces, afterCalls, piecesAsk, callsAsk, lasts}
 
 -- "A distance step has length kind 1"
@@ -47,12 +60,16 @@ isRamp (FtpRamp start step every) = true
 abbrev pub isPlain : Step → Bool
 isPlain s = not (isDistance (s .length)) && not (isRamp (s .target))
 
--- "every workout without distance steps and ramp targets .. that pass document 01's questions". In memory a workout has twelve
--- places for steps.
+-- "every workout without distance steps and ramp targets .. that pass document 01's questions"
 pub record Taken (w : Workout) : Type 0 where
   pub passes : workoutAnswer w ≡ Accepted
   pub plain : all isPlain (stepsOf w) ≡ true
+
+-- What the types hold of a workout and a list: twelve places for steps, and 16 bits for a reading's power. `codec::workout_fits` and
+-- `machine::reading_fits` show it of all that is in memory.
+pub record InMemory (w : Workout) (l : List CutCall) : Type 0 where
   pub twelve : length (w .steps) ≡ 12
+  pub reads : ReadsFit l
 
 -- "The stored record is what the record writer gives for the player": the bytes of the workout's name and test, the player's summary, and
 -- journal, id, start and whether it is dated.
@@ -86,7 +103,7 @@ pub record After (w : Workout) (p : TrainingProfile) (l : List CutCall) : Type 0
   pub bytes : (journal id start : ℕ) (dated : Bool)
       → playerRecord (cutRun w p l .player) journal id start dated ≡ machineRecord w (afterCalls w p l begun .machine) journal id start dated
   -- "The started, finished and FTP events given so far are exactly that machine's, in order."
-  pub events : compared (cutRun w p l .events) ≡ afterCalls w p l begun .machine .events
+  pub events : compared (cutRun w p l .events) ≡ afterCalls w p l begun .machine .given .events
   -- What is refused as the cut list runs is what the machine's own questions refuse, call by call.
   pub answers : cutRun w p l .answers ≡ callsAsk w p l begun
 
@@ -103,7 +120,7 @@ pub record Claim (w : Workout) (p : TrainingProfile) (l : List CutCall) : Type 0
 
 abbrev pub ThirdDemand : Type 0
 ThirdDemand =
-    (w : Workout) (p : TrainingProfile) → Taken w → profileOk p ≡ true → (l : List CutCall) → AllWellCut l → Claim w p l
+    (w : Workout) (p : TrainingProfile) (l : List CutCall) → Taken w → profileOk p ≡ true → AllWellCut l → InMemory w l → Claim w p l
 
 -- Laws beside it.
 
@@ -114,6 +131,13 @@ pub record PiecesAtOnce : Type 0 where
       → afterPieces w p kinds values qs s .machine ≡ milliseconds w p (lasts w p kinds values qs s) (s .machine)
   pub unrefused : (w : Workout) (p : TrainingProfile) (kinds values : ℕ) (qs : List Piece) (s : Progress)
       → AllAccepted (piecesAsk w p kinds values qs s) → lasts w p kinds values qs s ≡ sumMs qs
+
+-- "the pieces count only for what is refused": two cuttings of one list in which nothing is refused, the list as it stands (`alone`)
+-- among them, bring the machine to the same state.
+abbrev pub CuttingsAgree : Type 0
+CuttingsAgree =
+    (w : Workout) (p : TrainingProfile) (l k : List CutCall) → uncut l ≡ uncut k → AllWellCut l → AllWellCut k → AllAccepted (callsAsk w p l begun)
+    → AllAccepted (callsAsk w p k begun) → afterCalls w p l begun .machine ≡ afterCalls w p k begun .machine
 
 -- "What is refused as the cut list runs counts for nothing in player": a refused call leaves the player and gives no events.
 abbrev pub RefusedStays : Type 0

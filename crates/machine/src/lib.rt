@@ -2,7 +2,7 @@
 ghost use Prim.Native.Nat.{_<_};
 ghost use Rattle.power.specs.Power.{orZero};
 ghost use Rattle.machine.specs.Samples.{Samples};
-ghost use Rattle.machine.specs.ThirdDemand.{ThirdDemand, PiecesAtOnce, RefusedStays, SecondsEitherWay};
+ghost use Rattle.machine.specs.ThirdDemand.{ThirdDemand, PiecesAtOnce, CuttingsAgree, RefusedStays, SecondsEitherWay};
 use power::ReadingOption;
 
 // The third demand: after each call of a list, cut as one likes, the record and the events are the millisecond machine's.
@@ -13,6 +13,11 @@ pub fn third_demand()
 // A ride's pieces one by one are the milliseconds of those that aren't refused at once.
 pub fn pieces_at_once()
     ensures { λ _. ⌜ PiecesAtOnce ⌝ }
+{}
+
+// Two cuttings of one list in which nothing is refused, the list as it stands among them, give the same machine.
+pub fn cuttings_agree()
+    ensures { λ _. ⌜ CuttingsAgree ⌝ }
 {}
 
 // A refused call leaves the player and gives no events.

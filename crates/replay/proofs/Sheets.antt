@@ -164,7 +164,7 @@ acts-ridden w p (act ∷ acts) i q e =
     one Skip = refl
     one Extend = refl
 
-name-passes : (w : Workout) → workoutAnswer w ≡ Accepted → nameOk (w .name) ≡ true
+pub name-passes : (w : Workout) → workoutAnswer w ≡ Accepted → nameOk (w .name) ≡ true
 unfolding formOk
 name-passes w e =
     let n = w .«step_count» in

@@ -27,9 +27,10 @@ use Rattle.start.specs.Start.{fresh, newBy, newOf}
 use Rattle.history.specs.Record.{recordOf, recordBytes}
 use Rattle.record_writer.specs.Write.{outputBy}
 use Rattle.machine.specs.Machine.{summaryOf}
-use Rattle.machine.specs.Cutting.{AllWellCut, own, alone, sumMs, sumMm}
+use Rattle.machine.specs.Cutting.{ReadsFit, alone}
 use Rattle.machine.specs.Runs.{run}
-use Rattle.machine.specs.ThirdDemand.{isPlain, Taken, machineRecord}
+use Rattle.machine.specs.ThirdDemand.{isPlain, machineRecord}
+use Rattle.machine.proofs.Scope.{Held}
 use Rattle.machine.proofs.Demand.{summary-alone}
 use Rattle.sheet.specs.declared.Act.{Act}
 use Rattle.sheet.specs.declared.Act.the-variants.{Profile, Read, Skip, Extend}
@@ -55,14 +56,14 @@ present-fits false value h = omega arith
 
 -- What the third demand supposes of an act's call.
 abbrev Fits : Act → Type 0
-Fits act = AllWellCut (alone (callsOf (act ∷ [])))
+Fits act = ReadsFit (alone (callsOf (act ∷ [])))
 
 module _ (s : List ℕ) (b : Bytes s) where
   at-kind : (at k : ℕ) → Fits (getD (actsAt s at) k Extend)
-  unfolding callsOf alone own sumMs sumMm
+  unfolding callsOf alone
   at-kind at zero = tt
   at-kind at (suc zero) = (present-fits (flagSet (flagsAt s at) 1) (numberOf (part s at 2)) (two-bytes (drop at s) (bytes-drop at s b)), tt)
-  at-kind at (suc (suc zero)) = (record { some = omega arith; ms-sum = omega arith; mm-sum = omega arith }, tt)
+  at-kind at (suc (suc zero)) = (tt, tt)
   at-kind at (suc (suc (suc zero))) = (tt, tt)
   at-kind at (suc (suc (suc (suc k)))) = (tt, tt)
 
@@ -70,7 +71,7 @@ module _ (s : List ℕ) (b : Bytes s) where
   unfolding actIn
   act-fits n i = at-kind (placeOf n i) (kindIn s i)
 
-  joined : (act : Act) (acts : List Act) → Fits act → AllWellCut (alone (callsOf acts)) → AllWellCut (alone (callsOf (act ∷ acts)))
+  joined : (act : Act) (acts : List Act) → Fits act → ReadsFit (alone (callsOf acts)) → ReadsFit (alone (callsOf (act ∷ acts)))
   unfolding callsOf alone
   joined (Profile f) acts h k = k
   joined (Read sample) acts h k = (h .0, k)
@@ -78,7 +79,7 @@ module _ (s : List ℕ) (b : Bytes s) where
   joined Skip acts h k = (tt, k)
   joined Extend acts h k = (tt, k)
 
-  from-fits : (n i k : ℕ) → AllWellCut (alone (callsOf (actsFrom s n i k)))
+  from-fits : (n i k : ℕ) → ReadsFit (alone (callsOf (actsFrom s n i k)))
   unfolding actsFrom callsOf alone
   from-fits n i zero = tt
   from-fits n i (suc k) = joined (actIn s n i) (actsFrom s n (i + 1) k) (act-fits n i) (from-fits n (i + 1) k)
@@ -90,10 +91,10 @@ module _ (file s : List ℕ) (bf : Bytes file) (bs : Bytes s) where
   abbrev p : TrainingProfile
   p = profileIn s
 
-  taken : decodeOf file .answer ≡ Accepted → all isPlain (stepsOf w) ≡ true → Taken w
+  taken : decodeOf file .answer ≡ Accepted → all isPlain (stepsOf w) ≡ true → Held w
   taken e plain =
       let is : decodeOf file ≡ acceptedAs w = ap (λ (a : Answer). record { answer = a; workout = w }) e in
-      record { passes = read-is-written .sound file bf w is; plain = plain; twelve = read-is-written .fits file bf w is .twelve }
+      record { taken = record { passes = read-is-written .sound file bf w is; plain = plain }; twelve = read-is-written .fits file bf w is .twelve }
 
   -- the fresh player is the workout's
   new-workout : workoutAnswer w ≡ Accepted → newOf w .player .workout ≡ w
@@ -112,7 +113,7 @@ module _ (file s : List ℕ) (bf : Bytes file) (bs : Bytes s) where
   output-same plain journal id start dated out e =
       let h = accepts file s (length out) e in
       let r = riddenOf file s (length out) in
-      let v = new-workout (taken (h .file-passes) plain .passes) in
+      let v = new-workout (taken (h .file-passes) plain .taken .passes) in
       ap (λ (a : Answer). outputBy a (replayRecord r journal id start dated) out) e
       ∙ ap (λ (r : Ridden). written out 0 (recordBytes (replayRecord r journal id start dated))) (h .ridden)
       ∙ ap₂ (λ (v : Workout) (x : Summary). written out 0 (recordBytes (recordOf (v .name) (v .test) x journal id start dated))) v (summary-same (h .file-passes) plain (h .profile-passes))

@@ -1,1 +1,2 @@
 pub mod ReplayMachine
+pub mod Stored
