@@ -3,6 +3,7 @@
 ghost use mathlib.Core.Path.{_≡_};
 ghost use Prim.Native.Nat.{_+_, _*_, _≤_, _<_};
 ghost use lib.ListN.{length};
+ghost use Rattle.sheet.specs.RoundTrip.{WrittenIsRead, ReadIsWritten, SampleSheet};
 ghost use Rattle.sheet.specs.Sheet.{countIn, sizeOk, absentOk, profileAt, sampleAt, sampleOk, unusedAt, actOk, actIn, faultFrom, acceptedAll, refusedAt, checkOf};
 use power::reading_at;
 use readings::Sample;
@@ -202,3 +203,18 @@ pub fn act_at(sheet: &[u8], n: usize, i: usize) -> Act
         _ => Act::Extend,
     }
 }
+
+// What is written of a list of acts passes both questions and is read as that list.
+pub fn written_is_read()
+    ensures { λ _. ⌜ WrittenIsRead ⌝ }
+{}
+
+// A sheet that passes both questions is the one written from what is read of it.
+pub fn read_is_written()
+    ensures { λ _. ⌜ ReadIsWritten ⌝ }
+{}
+
+// A sheet with an act of each kind, byte by byte.
+pub fn sample_sheet()
+    ensures { λ _. ⌜ SampleSheet ⌝ }
+{}

@@ -1,0 +1,10 @@
+-- `written_is_read` states what Trip.antt proves.
+use Rattle.sheet.proofs.Trip.{written-is-read}
+use Rattle.sheet.proofs.written_is_read.Statement.{statement}
+use Rattle.sheet.proofs.written_is_read.Tie as tie
+
+returns : tie.Need-returns
+returns c = written-is-read
+
+pub written-is-read-spec : {M : Type 1} → statement M
+written-is-read-spec = tie.close (tie.spec returns)
