@@ -1,4 +1,4 @@
-// Document 01, 'Bench sheet': the lines marked P, proved together as one fact. Lines join as the module they speak of is there.
+// Document 01, 'Bench sheet': the lines marked P, proved together as one fact.
 ghost use Rattle.bench_sheet.specs.BenchSheet.{BenchSheet};
 ghost use Rattle.bench_sheet.specs.Facts.{Facts};
 

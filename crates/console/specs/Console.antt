@@ -13,7 +13,7 @@ use Rattle.console.specs.declared.Replayed.{Replayed}
 abbrev pub answerNumber : Answer → ℕ
 answerNumber answer = numbers.answerNumber answer
 
--- "and, where it names one, its act", outcome apart from act 0 by a number that no act has
+-- "and, where it names one, its act", told apart from act 0 by a number that no act has
 abbrev pub actNumber : ActOption → ℕ
 actNumber None = 4294967295
 actNumber (Some act) = act

@@ -1,5 +1,5 @@
 // model.rs: steps with a length and a target, the blocks that repeat some of them, and what a target asks of a rider.
-// Checking a workout and its playing order, also of model.rs, are in the crate `order`; `Name` is in `names`.
+// The rest of model.rs stands in `names` (`Name`), `blocks` (sound blocks), `order` (the playing order) and `validation` (`validate`).
 ghost use mathlib.Core.Path.{_≡_};
 ghost use Prim.Native.Nat.{max};
 ghost use Rattle.model.specs.Target.{bandOf, rampOption, rampBand, ofFtp, capped, wrapped, stageOf, stageWatts, wattsAt};

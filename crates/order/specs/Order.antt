@@ -68,7 +68,7 @@ abbrev pub placeIn : BlockOption → ℕ → ℕ → Place
 placeIn blockOption.None index before = place index 0 1
 placeIn (blockOption.Some b) index before = place (b .first + before % b .len) (before / b .len) (b .count)
 
--- "Where 'nothing' is a flag beside a value, the value is one named constant": NO_PLAYED.
+-- `NO_PLAYED`: what stands beside the flag where no step is played.
 abbrev pub noPlayed : Played
 noPlayed = record { index = 0; repetition = 0; of = 1; step = noStep }
 

@@ -20,11 +20,11 @@ use Rattle.refusal.specs.declared.Refusal.the-variants as refusals
 use Rattle.cursor.specs.Reading.{Read, got, refused, behind, enough, andThen}
 use Rattle.cursor.specs.Names.{readName}
 use Rattle.steps.specs.declared.IntensityOption.{IntensityOption}
-use Rattle.steps.specs.declared.IntensityOption.the-variants as intensity
+use Rattle.steps.specs.declared.IntensityOption.the-variants as intensityOption
 use Rattle.steps.specs.declared.LengthOption.{LengthOption}
-use Rattle.steps.specs.declared.LengthOption.the-variants as length
+use Rattle.steps.specs.declared.LengthOption.the-variants as lengthOption
 use Rattle.steps.specs.declared.TargetOption.{TargetOption}
-use Rattle.steps.specs.declared.TargetOption.the-variants as target
+use Rattle.steps.specs.declared.TargetOption.the-variants as targetOption
 use Rattle.steps.specs.declared.SmallOption.{SmallOption}
 use Rattle.steps.specs.declared.SmallOption.the-variants as small
 use Rattle.steps.specs.declared.Fixed.{Fixed}
@@ -35,21 +35,21 @@ use Rattle.steps.specs.declared.StepRead.{StepRead}
 
 abbrev pub intensityKinds : List IntensityOption
 intensityKinds =
-    intensity.Some intensities.Warmup ∷ intensity.Some intensities.Work ∷ intensity.Some intensities.Recovery
-    ∷ intensity.Some intensities.Cooldown ∷ intensity.Some intensities.Test ∷ []
+    intensityOption.Some intensities.Warmup ∷ intensityOption.Some intensities.Work ∷ intensityOption.Some intensities.Recovery
+    ∷ intensityOption.Some intensities.Cooldown ∷ intensityOption.Some intensities.Test ∷ []
 
 unfoldable pub intensityOf : ℕ → IntensityOption
-intensityOf kind = getD intensityKinds kind intensity.None
+intensityOf kind = getD intensityKinds kind intensityOption.None
 
 -- "`Time` fits 16 bits; an `Open` value is 0"
 abbrev pub lengthKinds : ℕ → List LengthOption
 lengthKinds value =
-    cond (ltb value 65536) (length.Some (lengths.Time value)) length.None
-    ∷ length.Some (lengths.Distance value)
-    ∷ cond (eqb value 0) (length.Some lengths.Open) length.None ∷ []
+    cond (ltb value 65536) (lengthOption.Some (lengths.Time value)) lengthOption.None
+    ∷ lengthOption.Some (lengths.Distance value)
+    ∷ cond (eqb value 0) (lengthOption.Some lengths.Open) lengthOption.None ∷ []
 
 unfoldable pub lengthOf : ℕ → ℕ → LengthOption
-lengthOf kind value = getD (lengthKinds value) kind length.None
+lengthOf kind value = getD (lengthKinds value) kind lengthOption.None
 
 -- "values of kinds 1, 3, 4, 5 and the first two of 7 that are used fit a byte"
 abbrev pub smallOf : ℕ → ℕ → SmallOption
@@ -57,11 +57,11 @@ smallOf a b = cond (ltb a 256) (cond (ltb b 256) (small.Some a b) small.None) sm
 
 abbrev pub bySmall : (ℕ → ℕ → TargetOption) → SmallOption → TargetOption
 bySmall made (small.Some a b) = made a b
-bySmall made small.None = target.None
+bySmall made small.None = targetOption.None
 
 -- "the third is 0 except in 6 and 7"
 abbrev pub plainOf : ℕ → Target → TargetOption
-plainOf c t = cond (eqb c 0) (target.Some t) target.None
+plainOf c t = cond (eqb c 0) (targetOption.Some t) targetOption.None
 
 -- "Target kinds: 0 `Free`, 1 `Ftp`, 2 `Watts`, 3 `HeartZone`, 4 `Lthr`, 5 `Cadence`, 6 `Ramp`, 7 `FtpRamp`." "Filler values are the
 -- first two of `Free` and the second of `HeartZone`: read past".
@@ -73,24 +73,24 @@ targetKinds a b c =
     ∷ bySmall (λ x y. plainOf c (targets.HeartZone x)) (smallOf a 0)
     ∷ bySmall (λ x y. plainOf c (targets.Lthr x y)) (smallOf a b)
     ∷ bySmall (λ x y. plainOf c (targets.Cadence x y)) (smallOf a b)
-    ∷ target.Some (targets.Ramp a b c)
-    ∷ bySmall (λ x y. target.Some (targets.FtpRamp x y c)) (smallOf a b) ∷ []
+    ∷ targetOption.Some (targets.Ramp a b c)
+    ∷ bySmall (λ x y. targetOption.Some (targets.FtpRamp x y c)) (smallOf a b) ∷ []
 
 unfoldable pub targetOf : ℕ → ℕ → ℕ → ℕ → TargetOption
-targetOf kind a b c = getD (targetKinds a b c) kind target.None
+targetOf kind a b c = getD (targetKinds a b c) kind targetOption.None
 
 -- A step's bytes before its note, judged from left to right.
 abbrev pub zeroThen : Intensity → Length → ℕ → TargetOption → Fixed
-zeroThen i l zero-byte (target.Some t) = cond (eqb zero-byte 0) (fixed.Some i l t) fixed.None
-zeroThen i l zero-byte target.None = fixed.None
+zeroThen i l zero-byte (targetOption.Some t) = cond (eqb zero-byte 0) (fixed.Some i l t) fixed.None
+zeroThen i l zero-byte targetOption.None = fixed.None
 
 abbrev pub targetThen : Intensity → TargetOption → ℕ → LengthOption → Fixed
-targetThen i t zero-byte (length.Some l) = zeroThen i l zero-byte t
-targetThen i t zero-byte length.None = fixed.None
+targetThen i t zero-byte (lengthOption.Some l) = zeroThen i l zero-byte t
+targetThen i t zero-byte lengthOption.None = fixed.None
 
 abbrev pub lengthThen : LengthOption → TargetOption → ℕ → IntensityOption → Fixed
-lengthThen l t zero-byte (intensity.Some i) = targetThen i t zero-byte l
-lengthThen l t zero-byte intensity.None = fixed.None
+lengthThen l t zero-byte (intensityOption.Some i) = targetThen i t zero-byte l
+lengthThen l t zero-byte intensityOption.None = fixed.None
 
 unfoldable pub fixedOf : List ℕ → Fixed
 fixedOf l =

@@ -2,7 +2,7 @@
 use mathlib.Core.Path.{sym}
 use native.Mathlib.Omega.{arith}
 use lib.ListN.{List·getD-eq-default}
-use Rattle.steps.specs.declared.IntensityOption.the-variants as intensity
+use Rattle.steps.specs.declared.IntensityOption.the-variants as intensityOption
 use Rattle.steps.specs.Steps.{intensityKinds, intensityOf}
 use Rattle.steps.proofs.intensity_of.Statement.{statement}
 use Rattle.steps.proofs.intensity_of.Tie as tie
@@ -29,7 +29,7 @@ returns-5 c = rw (c .match .keys5)
 
 returns-6 : tie.Need-returns-6
 unfolding intensityOf
-returns-6 c = sym (List·getD-eq-default intensityKinds intensity.None {n = c .before .args .kind} (omega arith))
+returns-6 c = sym (List·getD-eq-default intensityKinds intensityOption.None {n = c .before .args .kind} (omega arith))
 
 pub intensity-of-spec : {M : Type 1} → statement M
 intensity-of-spec = tie.close (tie.spec returns returns-2 returns-3 returns-4 returns-5 returns-6)

@@ -4,7 +4,7 @@ use native.Mathlib.Omega.{arith}
 use lib.ListN.{List·getD-eq-default}
 use borrow.Author.Tests.{lt-ltb, le-ltb, eq-eqb, ne-eqb}
 use borrow.Author.Needs.{needs}
-use Rattle.steps.specs.declared.LengthOption.the-variants as length
+use Rattle.steps.specs.declared.LengthOption.the-variants as lengthOption
 use Rattle.steps.specs.Steps.{lengthKinds, lengthOf}
 use Rattle.steps.proofs.length_of.Statement.{statement}
 use Rattle.steps.proofs.length_of.Tie as tie
@@ -34,7 +34,7 @@ returns-5 c = rw (c .before .match .keys3, ne-eqb _ _ (c .if2 .left))
 
 returns-6 : tie.Need-returns-6
 unfolding lengthOf
-returns-6 c = sym (List·getD-eq-default (lengthKinds (c .before .args .value)) length.None {n = c .before .args .kind} (omega arith))
+returns-6 c = sym (List·getD-eq-default (lengthKinds (c .before .args .value)) lengthOption.None {n = c .before .args .kind} (omega arith))
 
 pub length-of-spec : {M : Type 1} → statement M
 length-of-spec =

@@ -5,7 +5,7 @@ use lib.ListN.{List·getD-eq-default}
 use borrow.Author.Needs.{needs}
 use Rattle.common.proofs.Numbers.{past}
 use Rattle.model.specs.declared.Target.the-variants as targets
-use Rattle.steps.specs.declared.TargetOption.the-variants as target
+use Rattle.steps.specs.declared.TargetOption.the-variants as targetOption
 use Rattle.steps.specs.Steps.{targetOf, targetKinds, plainOf, bySmall}
 use Rattle.steps.proofs.target_of.Statement.{statement}
 use Rattle.steps.proofs.target_of.Tie as tie
@@ -119,17 +119,17 @@ returns-11 c = rw (c .match .keys7)
 
 returns-12 : tie.Need-returns-12
 unfolding targetOf
-returns-12 c = rw (c .before .before .before .before .match .keys8) (ap (bySmall (λ (x y : ℕ). target.Some (targets.FtpRamp x y (c .before .before .before .before .before .args .c)))) (sym (sym (c .before .before .before .small5 .ensures) ∙ c .before .start .given .1)))
+returns-12 c = rw (c .before .before .before .before .match .keys8) (ap (bySmall (λ (x y : ℕ). targetOption.Some (targets.FtpRamp x y (c .before .before .before .before .before .args .c)))) (sym (sym (c .before .before .before .small5 .ensures) ∙ c .before .start .given .1)))
 
 returns-13 : tie.Need-returns-13
 unfolding targetOf
-returns-13 c = rw (c .before .before .before .match .keys8) (ap (bySmall (λ (x y : ℕ). target.Some (targets.FtpRamp x y (c .before .before .before .before .args .c)))) (sym (sym (c .before .before .small5 .ensures) ∙ c .enum-told5 .given .1)))
+returns-13 c = rw (c .before .before .before .match .keys8) (ap (bySmall (λ (x y : ℕ). targetOption.Some (targets.FtpRamp x y (c .before .before .before .before .args .c)))) (sym (sym (c .before .before .small5 .ensures) ∙ c .enum-told5 .given .1)))
 
 returns-14 : tie.Need-returns-14
 unfolding targetOf
 returns-14 c = let k = c .before .args .kind in
     let r = c .match .rest in
-    sym (List·getD-eq-default (targetKinds (c .before .args .a) (c .before .args .b) (c .before .args .c)) target.None {n = k} (past 7 k (past 6 k (past 5 k (past 4 k (past 3 k (past 2 k (past 1 k (past 0 k (zero-le) (r .0 .0 .0 .0 .0 .0 .0 .1)) (r .0 .0 .0 .0 .0 .0 .1)) (r .0 .0 .0 .0 .0 .1)) (r .0 .0 .0 .0 .1)) (r .0 .0 .0 .1)) (r .0 .0 .1)) (r .0 .1)) (r .1)))
+    sym (List·getD-eq-default (targetKinds (c .before .args .a) (c .before .args .b) (c .before .args .c)) targetOption.None {n = k} (past 7 k (past 6 k (past 5 k (past 4 k (past 3 k (past 2 k (past 1 k (past 0 k (zero-le) (r .0 .0 .0 .0 .0 .0 .0 .1)) (r .0 .0 .0 .0 .0 .0 .1)) (r .0 .0 .0 .0 .0 .1)) (r .0 .0 .0 .0 .1)) (r .0 .0 .0 .1)) (r .0 .0 .1)) (r .0 .1)) (r .1)))
 
 pub target-of-spec : {M : Type 1} → statement M
 target-of-spec =
