@@ -9,7 +9,7 @@ ghost use Rattle.decode.specs.Decode as files;
 ghost use Rattle.encode.specs.Encode.{encodedOf, outputOf};
 ghost use Rattle.history.specs.Decode as records;
 ghost use Rattle.record_writer.specs.Write as written;
-ghost use Rattle.compare_files.specs.Files.{fileWord, encodedNumber};
+ghost use Rattle.compare_files.specs.Files.{fileWord, writtenNumber};
 ghost use Rattle.compare_records.specs.Records.{readWord};
 ghost use Rattle.standing.specs.Standing.{standingOf};
 ghost use Rattle.bench.specs.Rides.{begunOf, riddenOf, ridesOf};
@@ -42,7 +42,7 @@ pub extern "C" fn read_file(file: &[u8], place: u32) -> u32
 
 #[no_mangle]
 pub extern "C" fn read_and_write_file(file: &[u8], out: &mut [u8]) -> u32
-    ensures { λ r. ⌜ r ≡ encodedNumber (encodedOf (files.decodeOf (now (file .entry)) .workout) (length (now (out .entry)))) ⌝ }
+    ensures { λ r. ⌜ r ≡ writtenNumber (encodedOf (files.decodeOf (now (file .entry)) .workout) (length (now (out .entry)))) ⌝ }
     ensures { λ _. ⌜ now (out .exit) ≡ outputOf (files.decodeOf (now (file .entry)) .workout) (now (out .entry)) ⌝ }
 {
     compare_files::compare_written(file, out)

@@ -73,16 +73,16 @@ abbrev pub filled : (ℕ → ℕ) → List ℕ → ℕ → List ℕ
 filled word answer n = map word (range 0 n) ++ drop n answer
 
 -- the length written, in 32 bits, or the number of the question that refuses
-abbrev pub encodedNumber : Encoded → ℕ
-encodedNumber (encoded.Written size) = size % 4294967296
-encodedNumber (encoded.Refused refusal) = numberOf refusal
+abbrev pub writtenNumber : Encoded → ℕ
+writtenNumber (encoded.Written size) = size % 4294967296
+writtenNumber (encoded.Refused refusal) = numberOf refusal
 
 -- what was read, written over 484 bytes of 165: the answer, then the bytes, four to a word
 abbrev pub lent : List ℕ
 lent = replicate 484 165
 
 abbrev pub writtenBy : Workout → ℕ → ℕ
-writtenBy w place = getD (encodedNumber (encodedOf w 484) ∷ []) place (wordAt (outputOf w lent) (place - 1))
+writtenBy w place = getD (writtenNumber (encodedOf w 484) ∷ []) place (wordAt (outputOf w lent) (place - 1))
 
 unfoldable pub writtenWord : List ℕ → ℕ → ℕ
 writtenWord file place = writtenBy (decodeOf file .workout) place

@@ -6,7 +6,7 @@ ghost use Prim.Native.Nat.{min};
 ghost use lib.ListN.{length};
 ghost use Rattle.decode.specs.Decode.{decodeOf};
 ghost use Rattle.encode.specs.Encode.{encodedOf, outputOf};
-ghost use Rattle.compare_files.specs.Files.{textWord, headWord, stepWord, blockWord, restWord, bodyWord, fileWord, filled, encodedNumber, writtenWord, questionWord};
+ghost use Rattle.compare_files.specs.Files.{textWord, headWord, stepWord, blockWord, restWord, bodyWord, fileWord, filled, writtenNumber, writtenWord, questionWord};
 use common::least;
 use compare::compare_answer;
 use compare::order_word;
@@ -127,8 +127,8 @@ pub extern "C" fn compare_file(file: &[u8], answer: &mut [u32])
 }
 
 // The length written, or the number of the question that refuses: no file is as short as that.
-fn encoded_number(encoded: Encoded) -> u32
-    ensures { λ r. ⌜ r ≡ encodedNumber encoded ⌝ }
+fn written_number(encoded: Encoded) -> u32
+    ensures { λ r. ⌜ r ≡ writtenNumber encoded ⌝ }
 {
     match encoded {
         Encoded::Written(size) => (size % 4294967296) as u32,
@@ -139,12 +139,12 @@ fn encoded_number(encoded: Encoded) -> u32
 // What was read of a file, written again.
 #[no_mangle]
 pub extern "C" fn compare_written(file: &[u8], out: &mut [u8]) -> u32
-    ensures { λ r. ⌜ r ≡ encodedNumber (encodedOf (decodeOf (now (file .entry)) .workout) (length (now (out .entry)))) ⌝ }
+    ensures { λ r. ⌜ r ≡ writtenNumber (encodedOf (decodeOf (now (file .entry)) .workout) (length (now (out .entry)))) ⌝ }
     ensures { λ r. ⌜ now (out .exit) ≡ outputOf (decodeOf (now (file .entry)) .workout) (now (out .entry)) ⌝ }
 {
     let read = decode(file);
     let workout = read.workout;
-    encoded_number(encode(workout, out))
+    written_number(encode(workout, out))
 }
 
 // The same in words, over 484 bytes of 165: those past the file stay.

@@ -21,13 +21,13 @@ use Rattle.model.specs.declared.Block.{Block}
 use Rattle.model.specs.declared.Workout.{Workout}
 use Rattle.model.specs.Workout.{stepsOf, blocksOf}
 use Rattle.form.specs.Form.{noteOk, isNoStep, stepSlots, blockSlots, formOk}
-use Rattle.refusal.specs.Number.{ask}
+use Rattle.refusal.specs.Number.{ask, answerNumber}
 use Rattle.validation.specs.Sound.{validAnswer, workoutAnswer}
 use Rattle.steps.specs.Bytes.{stepBytes}
 use Rattle.step_writer.proofs.Laws.{name-size}
 use Rattle.encode.specs.declared.Encoded.{Encoded}
 use Rattle.encode.specs.declared.Encoded.the-variants as encoded
-use Rattle.encode.specs.Encode.{blockBytes, headBytes, bodyBytes, fileBytes, encodedBy, encodedOf, outputBy, outputOf}
+use Rattle.encode.specs.Encode.{blockBytes, headBytes, bodyBytes, fileBytes, encodedNumber, thenAsk, writerAnswer, encodedBy, encodedOf, outputBy, outputOf}
 use Rattle.encode.proofs.Sizes.{name-fits, head-length}
 
 -- what question 5 says of a workout that passes it
@@ -114,12 +114,28 @@ file-written w d k c e f g h =
 
 -- the writer's answers
 module _ (w : Workout) (out : List ℕ) where
-  pub refused-form : (r : Refusal) → workoutAnswer w ≡ Refused r → (encoded.Refused r ≡ encodedOf w (length out)) × (out ≡ outputOf w out)
+  -- the writer's number is that of its questions
+  by-number : (a : Answer) (size : ℕ) → encodedNumber (encodedBy a size (length out)) ≡ answerNumber (thenAsk a (ask (leb size (length out)) refusals.Output Accepted))
+  by-number (Refused r) size = refl
+  by-number Accepted size = at (leb size (length out))
+    where
+      at : (b : Bool) → encodedNumber (cond b (encoded.Written size) (encoded.Refused refusals.Output)) ≡ answerNumber (ask b refusals.Output Accepted)
+      at true = refl
+      at false = refl
+
+  -- What `encode` gives.
+  abbrev Gives : Encoded → List ℕ → Type 0
+  Gives r next = (r ≡ encodedOf w (length out)) × ((next ≡ outputOf w out) × (encodedNumber r ≡ answerNumber (writerAnswer w (length out))))
+
+  gives : (r : Encoded) (next : List ℕ) → r ≡ encodedOf w (length out) → next ≡ outputOf w out → Gives r next
+  unfolding encodedOf writerAnswer
+  gives r next e f = (e, (f, ap encodedNumber e ∙ by-number (workoutAnswer w) (length (fileBytes w))))
+
+  pub refused-form : (r : Refusal) → workoutAnswer w ≡ Refused r → Gives (encoded.Refused r) out
   unfolding encodedOf outputOf
-  refused-form r e = (
-    sym (ap (λ (a : Answer). encodedBy a (length (fileBytes w)) (length out)) e),
-    sym (ap (λ (a : Answer). outputBy (encodedBy a (length (fileBytes w)) (length out)) w out) e),
-  )
+  refused-form r e =
+      gives (encoded.Refused r) out (sym (ap (λ (a : Answer). encodedBy a (length (fileBytes w)) (length out)) e))
+      (sym (ap (λ (a : Answer). outputBy (encodedBy a (length (fileBytes w)) (length out)) w out) e))
 
   by-room : (t : Bool) → workoutAnswer w ≡ Accepted → leb (length (fileBytes w)) (length out) ≡ t
       → encodedOf w (length out) ≡ cond t (encoded.Written (length (fileBytes w))) (encoded.Refused refusals.Output)
@@ -128,19 +144,18 @@ module _ (w : Workout) (out : List ℕ) where
       ap (λ (a : Answer). encodedBy a (length (fileBytes w)) (length out)) e
       ∙ ap (λ (x : Bool). cond x (encoded.Written (length (fileBytes w))) (encoded.Refused refusals.Output)) f
 
-  pub no-room : workoutAnswer w ≡ Accepted → length out < length (fileBytes w)
-      → (encoded.Refused refusals.Output ≡ encodedOf w (length out)) × (out ≡ outputOf w out)
+  pub no-room : workoutAnswer w ≡ Accepted → length out < length (fileBytes w) → Gives (encoded.Refused refusals.Output) out
   unfolding outputOf
   no-room e h =
       let f = by-room false e (lt-leb (length (fileBytes w)) (length out) h) in
-      (sym f, sym (ap (λ (x : Encoded). outputBy x w out) f))
+      gives (encoded.Refused refusals.Output) out (sym f) (sym (ap (λ (x : Encoded). outputBy x w out) f))
 
   pub room-enough : (n : ℕ) (next : List ℕ) → workoutAnswer w ≡ Accepted → n ≡ length (fileBytes w) → n ≤ length out → next ≡ written out 0 (fileBytes w)
-      → (encoded.Written n ≡ encodedOf w (length out)) × (next ≡ outputOf w out)
+      → Gives (encoded.Written n) next
   unfolding outputOf
   room-enough n next e size h g =
       let f = by-room true e (le-leb (length (fileBytes w)) (length out) (omega arith)) in
-      (ap (λ (k : ℕ). encoded.Written k) size ∙ sym f, g ∙ sym (ap (λ (x : Encoded). outputBy x w out) f))
+      gives (encoded.Written n) next (ap (λ (k : ℕ). encoded.Written k) size ∙ sym f) (g ∙ sym (ap (λ (x : Encoded). outputBy x w out) f))
 
   -- what passes 5 to 9 passes 5
   pub accepted-form : workoutAnswer w ≡ Accepted → formOk w ≡ true

@@ -9,6 +9,7 @@ use Rattle.checksum.specs.V42.{checkOf}
 use Rattle.refusal.specs.declared.Answer.{Answer}
 use Rattle.refusal.specs.declared.Answer.the-variants.{Accepted, Refused}
 use Rattle.refusal.specs.declared.Refusal.the-variants as refusals
+use Rattle.refusal.specs.Number.{ask, numberOf}
 use Rattle.model.specs.declared.Block.{Block}
 use Rattle.model.specs.declared.Test.{Test}
 use Rattle.model.specs.declared.Test.the-variants as tests
@@ -41,6 +42,20 @@ bodyBytes w = headBytes w ++ (flatMap stepBytes (stepsOf w) ++ flatMap blockByte
 -- "check word of all before it, 4 bytes"
 unfoldable pub fileBytes : Workout → List ℕ
 fileBytes w = bodyBytes w ++ bytesOf 4 (checkOf (bodyBytes w))
+
+-- "When an answer is an enum, a definition states this paper's number and values for each of its cases.": the question's number, 0 for
+-- none, beside the length that the case has.
+abbrev pub encodedNumber : Encoded → ℕ
+encodedNumber (encoded.Written size) = 0
+encodedNumber (encoded.Refused refusal) = numberOf refusal
+
+-- "The writer asks 5 .., 6 to 9, then 19": its answer alone.
+abbrev pub thenAsk : Answer → Answer → Answer
+thenAsk Accepted rest = rest
+thenAsk (Refused refusal) rest = Refused refusal
+
+unfoldable pub writerAnswer : Workout → ℕ → Answer
+writerAnswer w room = thenAsk (workoutAnswer w) (ask (leb (length (fileBytes w)) room) refusals.Output Accepted)
 
 -- "The writer asks 5 .., 6 to 9, then 19": the file's own length has to have room.
 abbrev pub encodedBy : Answer → ℕ → ℕ → Encoded

@@ -8,7 +8,8 @@ ghost use Rattle.common.specs.Lists.{all};
 ghost use Rattle.le.specs.Le.{written};
 ghost use Rattle.form.specs.Form.{noteOk, formOk};
 ghost use Rattle.steps.specs.Bytes.{stepBytes};
-ghost use Rattle.encode.specs.Encode.{testKind, blockBytes, headBytes, fileBytes, encodedOf, outputOf};
+ghost use Rattle.encode.specs.Encode.{testKind, blockBytes, headBytes, fileBytes, encodedOf, outputOf, encodedNumber, writerAnswer};
+ghost use Rattle.refusal.specs.Number.{answerNumber};
 use model::Block;
 use model::Step;
 use model::Test;
@@ -139,6 +140,7 @@ fn put_file(out: &mut [u8], workout: Workout)
 pub fn encode(workout: Workout, out: &mut [u8]) -> Encoded
     ensures { λ r. ⌜ r ≡ encodedOf workout (length (now (out .entry))) ⌝ }
     ensures { λ r. ⌜ now (out .exit) ≡ outputOf workout (now (out .entry)) ⌝ }
+    ensures { λ r. ⌜ encodedNumber r ≡ answerNumber (writerAnswer workout (length (now (out .entry)))) ⌝ }
 {
     let answer = validation::check(workout);
     if let Answer::Refused(refusal) = answer {

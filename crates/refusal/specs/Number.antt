@@ -1,4 +1,5 @@
 -- Document 01, 'The questions, in order': the number of each question.
+use mathlib.Core.Path.{_≡_}
 use mathlib.Core.Bool.{Bool, true, false}
 use Prim.Native.Nat.{ℕ}
 use Rattle.refusal.specs.declared.Invalid.{Invalid}
@@ -60,3 +61,8 @@ ask false refusal rest = Refused refusal
 abbrev pub answerNumber : Answer → ℕ
 answerNumber Accepted = 0
 answerNumber (Refused refusal) = numberOf refusal
+
+-- Each question has a number of its own: an answer's case says the same as its number.
+pub record NumbersApart : Type 0 where
+  pub refusals : (a b : Refusal) → numberOf a ≡ numberOf b → a ≡ b
+  pub answers : (a b : Answer) → answerNumber a ≡ answerNumber b → a ≡ b

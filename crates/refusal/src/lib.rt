@@ -1,7 +1,7 @@
 // The questions of document 01, 'The questions, in order', as refusals: one case for each question that can fail,
 // with its number. `Invalid` is model.rs's; the others that codec.rs names keep their names.
 ghost use mathlib.Core.Path.{_≡_};
-ghost use Rattle.refusal.specs.Number.{numberOf};
+ghost use Rattle.refusal.specs.Number.{numberOf, NumbersApart};
 
 // Why a workout cannot be played.
 pub enum Invalid {
@@ -74,3 +74,8 @@ pub enum Answer {
     Accepted,
     Refused(Refusal),
 }
+
+// No two questions have one number, and none has 0.
+pub fn numbers_apart()
+    ensures { λ _. ⌜ NumbersApart ⌝ }
+{}

@@ -7,7 +7,7 @@ use lib.ListN.{getD}
 use Rattle.refusal.specs.declared.Answer.{Answer}
 use Rattle.refusal.specs.declared.Answer.the-variants.{Accepted, Refused}
 use Rattle.refusal.specs.declared.Refusal.the-variants as refusals
-use Rattle.refusal.specs.Number.{ask}
+use Rattle.refusal.specs.Number.{ask, numberOf}
 use Rattle.zones.specs.declared.TrainingProfile.{TrainingProfile}
 use Rattle.zones.specs.declared.Range.{Range}
 use Rattle.zones.specs.declared.NewProfile.{NewProfile}
@@ -27,6 +27,12 @@ profileAnswer p = ask (profileOk p) refusals.Profile Accepted
 abbrev pub newOf : TrainingProfile → Answer → NewProfile
 newOf p Accepted = made.Profile p
 newOf p (Refused refusal) = made.Refused refusal
+
+-- "When an answer is an enum, a definition states this paper's number and values for each of its cases.": the question's number, 0 for
+-- none, beside the profile that the case has.
+abbrev pub newNumber : NewProfile → ℕ
+newNumber (made.Profile p) = 0
+newNumber (made.Refused refusal) = numberOf refusal
 
 abbrev pub profileNew : ℕ → ℕ → NewProfile
 profileNew ftp lthr = let p : TrainingProfile = record { «ftp_watts» = ftp; «lthr_bpm» = lthr } in newOf p (profileAnswer p)

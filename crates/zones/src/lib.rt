@@ -5,7 +5,8 @@ ghost use mathlib.Core.Path.{_≡_};
 ghost use mathlib.Core.Bool.{cond};
 ghost use Prim.Native.Nat.{_≤_, _-_, max};
 ghost use lib.Dec.{ltb, leb};
-ghost use Rattle.zones.specs.Zones.{percentOf, powerZone, heartZone, powerRange, heartRange, clamped, profileAnswer, profileNew};
+ghost use Rattle.zones.specs.Zones.{percentOf, powerZone, heartZone, powerRange, heartRange, clamped, profileAnswer, newNumber, profileNew};
+ghost use Rattle.refusal.specs.Number.{answerNumber};
 use refusal::Answer;
 use refusal::Refusal;
 
@@ -101,6 +102,7 @@ impl TrainingProfile {
     // A profile, if both thresholds pass question 10.
     pub fn new(ftp_watts: u16, lthr_bpm: u16) -> NewProfile
         ensures { λ r. ⌜ r ≡ profileNew «ftp_watts» «lthr_bpm» ⌝ }
+        ensures { λ r. ⌜ newNumber r ≡ answerNumber (profileAnswer (record { «ftp_watts» = «ftp_watts»; «lthr_bpm» = «lthr_bpm» })) ⌝ }
     {
         let profile = TrainingProfile {
             ftp_watts,

@@ -5,7 +5,7 @@ use denote.Ref.{now}
 use borrow.Author.Needs.{needs}
 use Rattle.decode.specs.declared.Decoded.{Decoded}
 use Rattle.encode.specs.Encode.{encodedOf, outputOf}
-use Rattle.compare_files.specs.Files.{encodedNumber}
+use Rattle.compare_files.specs.Files.{writtenNumber}
 use Rattle.compare_files.proofs.compare_written.Statement.{statement}
 use Rattle.compare_files.proofs.compare_written.Tie as tie
 
@@ -15,8 +15,8 @@ decode-requires c κs = search needs
 encode-requires : tie.Need-encode-requires
 encode-requires c κs = search needs
 
-encoded-number-requires : tie.Need-encoded-number-requires
-encoded-number-requires c κs = search needs
+written-number-requires : tie.Need-written-number-requires
+written-number-requires c κs = search needs
 
 same-length : tie.Need-same-length
 same-length c = search needs
@@ -25,11 +25,11 @@ returns : tie.Need-returns
 returns c = let a = c .before .before .before .before .before .before .before .before .before .args in
     let read = c .before .before .before .before .before .before .decode .ensures in
     let wrote = c .before .before .before .encode .ensures in (
-      c .encoded-number .ensures ∙ ap encodedNumber (wrote .0 ∙ ap (λ (r : Decoded). encodedOf (r .workout) (length (now (a .out)))) read),
-      wrote .1 ∙ ap (λ (r : Decoded). outputOf (r .workout) (now (a .out))) read,
+      c .written-number .ensures ∙ ap writtenNumber (wrote .0 ∙ ap (λ (r : Decoded). encodedOf (r .workout) (length (now (a .out)))) read),
+      wrote .1 .0 ∙ ap (λ (r : Decoded). outputOf (r .workout) (now (a .out))) read,
     )
 
 pub compare-written-spec : {M : Type 1} → statement M
 compare-written-spec =
     tie.close
-    (tie.spec decode-requires encode-requires encoded-number-requires same-length returns)
+    (tie.spec decode-requires encode-requires written-number-requires same-length returns)

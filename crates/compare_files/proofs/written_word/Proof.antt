@@ -8,7 +8,7 @@ use Rattle.common.proofs.Matches.{past, at-least}
 use Rattle.compare.specs.Input.{wordAt}
 use Rattle.decode.specs.Decode.{decodeOf}
 use Rattle.encode.specs.Encode.{encodedOf, outputOf}
-use Rattle.compare_files.specs.Files.{encodedNumber, lent, writtenWord}
+use Rattle.compare_files.specs.Files.{writtenNumber, lent, writtenWord}
 use Rattle.compare_files.proofs.written_word.Statement.{statement}
 use Rattle.compare_files.proofs.written_word.Tie as tie
 
@@ -37,7 +37,7 @@ returns-2 c = let a = c .before .before .before .before .before .before .before 
     let w = decodeOf (now (a .file)) .workout in
     c .word-at .ensures
     ∙ ap (λ (out : List ℕ). wordAt out (a .place - 1)) (c .before .before .before .before .compare-written .ensures .1)
-    ∙ past (encodedNumber (encodedOf w 484) ∷ []) (a .place) (wordAt (outputOf w lent) (a .place - 1)) (at-least 1 _ (c .before .before .match .rest))
+    ∙ past (writtenNumber (encodedOf w 484) ∷ []) (a .place) (wordAt (outputOf w lent) (a .place - 1)) (at-least 1 _ (c .before .before .match .rest))
 
 pub written-word-spec : {M : Type 1} → statement M
 written-word-spec =

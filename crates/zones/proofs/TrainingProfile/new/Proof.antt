@@ -14,10 +14,10 @@ enum-known-refusal : tie.Need-enum-known-refusal
 enum-known-refusal c = search needs
 
 returns : tie.Need-returns
-returns c = simp (sym (c .before .before .check .ensures) ∙ c .enum-told .given .1)
+returns c = let e = sym (c .before .before .check .ensures) ∙ c .enum-told .given .1 in (simp e, simp e)
 
 returns-2 : tie.Need-returns-2
-returns-2 c = simp (sym (c .before .before .before .check .ensures) ∙ c .before .refusal .given .1)
+returns-2 c = let e = sym (c .before .before .before .check .ensures) ∙ c .before .refusal .given .1 in (simp e, simp e)
 
 pub new-spec : {M : Type 1} → statement M
 new-spec = tie.close (tie.spec check-requires enum-told enum-known-refusal returns returns-2)

@@ -1,9 +1,9 @@
--- `compare_files::encoded_number` gives the length written or the refusal's number.
+-- `compare_files::written_number` gives the length written or the refusal's number.
 use mathlib.Core.Path.{sym, ap}
 use borrow.Author.Needs.{needs}
-use Rattle.compare_files.specs.Files.{encodedNumber}
-use Rattle.compare_files.proofs.encoded_number.Statement.{statement}
-use Rattle.compare_files.proofs.encoded_number.Tie as tie
+use Rattle.compare_files.specs.Files.{writtenNumber}
+use Rattle.compare_files.proofs.written_number.Statement.{statement}
+use Rattle.compare_files.proofs.written_number.Tie as tie
 
 enum-known-encoded : tie.Need-enum-known-encoded
 enum-known-encoded c = search needs
@@ -18,13 +18,13 @@ number-requires : tie.Need-number-requires
 number-requires c κs = search needs
 
 returns : tie.Need-returns
-returns c = sym (ap encodedNumber (c .before .encoded .given .1))
+returns c = sym (ap writtenNumber (c .before .encoded .given .1))
 
 returns-2 : tie.Need-returns-2
 returns-2 c = search needs
 
-pub encoded-number-spec : {M : Type 1} → statement M
-encoded-number-spec =
+pub written-number-spec : {M : Type 1} → statement M
+written-number-spec =
     tie.close
     (tie.spec
     enum-known-encoded
