@@ -1,4 +1,4 @@
--- model.rs: the parts of a workout that are used, and what stands in the places that are not.
+-- model.rs: the parts of a workout that are used, what stands in the places that are not, and the empty workout.
 use mathlib.Core.List.{List}
 use lib.ListN.{take, replicate}
 use Rattle.names.specs.Names.{emptyName}
