@@ -2,11 +2,12 @@
 // in tests/oracle/fields.rs.
 ghost use mathlib.Core.Path.{_≡_};
 ghost use Prim.Native.Nat.{_%_};
-ghost use Rattle.compare_fields.specs.Fields.{setNumber, setLap, setMeasured, setSummary, setOn, setReadings, setCore, setWorkout, setField};
+ghost use Rattle.compare_fields.specs.Fields.{setNumber, setLap, setMeasured, setSummary, setOn, setPlace, setReadings, setCore, setWorkout, setField};
 use model::Intensity;
 use model::Length;
 use model::Target;
 use model::Workout;
+use power::Power3s;
 use power::ReadingOption;
 use readings::Readings;
 use state::Core;
@@ -15,6 +16,7 @@ use state::Measured;
 use state::Mm;
 use state::Ms;
 use state::Player;
+use state::Ring;
 use state::StepNow;
 use state::Summary;
 
@@ -116,9 +118,18 @@ fn set_measured(measured: Measured, at: u32, value: u64) -> Measured
             q.ring.minute_at = number;
             q
         }
-        _ => {
+        5 => {
             let number = low8(value);
             q.ring.minute_len = number;
+            q
+        }
+        _ => {
+            let ring = measured.ring;
+            let best = Ring {
+                best_minute: ReadingOption::Some(low16(value)),
+                ..ring
+            };
+            q.ring = best;
             q
         }
     }
@@ -157,10 +168,14 @@ fn set_summary(summary: Summary, at: u32, value: u64) -> Summary
             q.skipped = low16(value);
             q
         }
-        _ => {
+        7 => {
             q.finished = value != 0;
             q
         }
+        _ => Summary {
+            ftp: ReadingOption::Some(low16(value)),
+            ..summary
+        },
     }
 }
 
@@ -205,7 +220,18 @@ fn set_on(on: StepNow, at: u32, value: u64) -> StepNow
     }
 }
 
-// The last cadence, present; or the average's place.
+// Place `at % 3` of the average: its watts, and present from 65,536 on.
+fn set_place(power: Power3s, at: u32, value: u64) -> Power3s
+    ensures { λ r. ⌜ r ≡ setPlace power at value ⌝ }
+{
+    let mut q = power;
+    let place = (at % 3) as usize;
+    q.watts[place] = low16(value);
+    q.present[place] = 65535 < value;
+    q
+}
+
+// The last cadence, present; the average's place; the last heart rate and power, present; or one of the average's places.
 fn set_readings(readings: Readings, at: u32, value: u64) -> Readings
     ensures { λ r. ⌜ r ≡ setReadings readings at value ⌝ }
 {
@@ -220,9 +246,33 @@ fn set_readings(readings: Readings, at: u32, value: u64) -> Readings
             q.last_sample = sample;
             q
         }
-        _ => {
+        1 => {
             let place = low8(value);
             q.power.next = place;
+            q
+        }
+        2 => {
+            let last = readings.last_sample;
+            let sample = readings::Sample {
+                heart_bpm: ReadingOption::Some(low16(value)),
+                ..last
+            };
+            q.last_sample = sample;
+            q
+        }
+        3 => {
+            let last = readings.last_sample;
+            let sample = readings::Sample {
+                power_watts: ReadingOption::Some(low16(value)),
+                ..last
+            };
+            q.last_sample = sample;
+            q
+        }
+        _ => {
+            let power = readings.power;
+            let set = set_place(power, at, value);
+            q.power = set;
             q
         }
     }
@@ -285,7 +335,8 @@ fn set_workout(workout: Workout, at: u32, value: u64) -> Workout
     }
 }
 
-// Field `field % 16` of group `field / 16`: those of the core, then those of the workout, then the note's length.
+// Field `field % 16` of group `field / 16`: those of the core, then those of the workout, then the note's length; past those place
+// `field % 60` of the ring's watts.
 pub fn set_field(player: Player, field: u32, value: u64) -> Player
     ensures { λ r. ⌜ r ≡ setField player field value ⌝ }
 {
@@ -304,7 +355,12 @@ pub fn set_field(player: Player, field: u32, value: u64) -> Player
         q.workout = set;
         return q;
     }
-    let len = low8(value);
-    q.note.len = len;
+    if group == 7 {
+        let len = low8(value);
+        q.note.len = len;
+        return q;
+    }
+    let place = (field % 60) as usize;
+    q.minute[place] = low16(value);
     q
 }

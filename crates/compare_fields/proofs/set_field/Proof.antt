@@ -1,4 +1,4 @@
--- `compare_fields::set_field` sets a field of the core, of the workout or of the note.
+-- `compare_fields::set_field` sets a field of the core, of the workout or of the note, or a place of the ring.
 use borrow.Author.Tests.{lt-ltb, le-ltb, eq-eqb, ne-eqb}
 use borrow.Author.Needs.{needs}
 use Rattle.compare_fields.specs.Fields.{setField}
@@ -24,9 +24,36 @@ low8-requires c κs = search needs
 
 returns-3 : tie.Need-returns-3
 unfolding setField
-returns-3 c = simp (le-ltb _ _ (c .before .before .before .if1 .left), ne-eqb _ _ (c .before .before .if2 .left), c .before .low8 .ensures)
+returns-3 c = simp (le-ltb _ _ (c .before .before .before .before .if1 .left), ne-eqb _ _ (c .before .before .before .if2 .left), eq-eqb _ _ (c .before .before .if3 .taken), c .before .low8 .ensures)
+
+cast-place : tie.Need-cast-place
+cast-place c = search needs
+
+low16-requires : tie.Need-low16-requires
+low16-requires c κs = search needs
+
+mul-q : tie.Need-mul-q
+mul-q c = search needs
+
+element-write-q : tie.Need-element-write-q
+element-write-q c = search needs
+
+returns-4 : tie.Need-returns-4
+unfolding setField
+returns-4 c = simp (le-ltb _ _ (c .before .before .before .if1 .left), ne-eqb _ _ (c .before .before .if2 .left), ne-eqb _ _ (c .before .if3 .left), c .low16 .ensures)
 
 pub set-field-spec : {M : Type 1} → statement M
 set-field-spec =
     tie.close
-    (tie.spec set-core-requires returns set-workout-requires returns-2 low8-requires returns-3)
+    (tie.spec
+    set-core-requires
+    returns
+    set-workout-requires
+    returns-2
+    low8-requires
+    returns-3
+    cast-place
+    low16-requires
+    mul-q
+    element-write-q
+    returns-4)

@@ -11,6 +11,9 @@ low8-requires c κs = search needs
 low8-requires-2 : tie.Need-low8-requires-2
 low8-requires-2 c κs = search needs
 
+low16-requires : tie.Need-low16-requires
+low16-requires c κs = search needs
+
 returns : tie.Need-returns
 unfolding setMeasured
 returns c = rw (c .match .keys1)
@@ -33,7 +36,11 @@ returns-5 c = rw (c .before .before .match .keys5, c .before .low8 .ensures)
 
 returns-6 : tie.Need-returns-6
 unfolding setMeasured
-returns-6 c = let a = c .before .before .before .args in rw (c .before .low82 .ensures) (past (firstMeasured (a .measured) (a .value)) (a .at) (lastMeasured (a .measured) (a .value)) (at-least 5 _ (c .before .before .match .rest)))
+returns-6 c = rw (c .before .before .match .keys6, c .before .low82 .ensures)
+
+returns-7 : tie.Need-returns-7
+unfolding setMeasured
+returns-7 c = let a = c .before .before .before .args in rw (c .low16 .ensures) (past (firstMeasured (a .measured) (a .value)) (a .at) (lastMeasured (a .measured) (a .value)) (at-least 6 _ (c .before .before .match .rest)))
 
 pub set-measured-spec : {M : Type 1} → statement M
 set-measured-spec =
@@ -41,9 +48,11 @@ set-measured-spec =
     (tie.spec
     low8-requires
     low8-requires-2
+    low16-requires
     returns
     returns-2
     returns-3
     returns-4
     returns-5
-    returns-6)
+    returns-6
+    returns-7)

@@ -14,6 +14,9 @@ low16-requires-2 c κs = search needs
 low16-requires-3 : tie.Need-low16-requires-3
 low16-requires-3 c κs = search needs
 
+low16-requires-4 : tie.Need-low16-requires-4
+low16-requires-4 c κs = search needs
+
 returns : tie.Need-returns
 unfolding setSummary
 returns c = rw (c .match .keys1)
@@ -44,7 +47,11 @@ returns-7 c = rw (c .before .match .keys7, c .low163 .ensures)
 
 returns-8 : tie.Need-returns-8
 unfolding setSummary
-returns-8 c = let a = c .before .args in past (firstSummary (a .summary) (a .value)) (a .at) (lastSummary (a .summary) (a .value)) (at-least 7 _ (c .match .rest))
+returns-8 c = rw (c .match .keys8)
+
+returns-9 : tie.Need-returns-9
+unfolding setSummary
+returns-9 c = let a = c .before .before .args in rw (c .low164 .ensures) (past (firstSummary (a .summary) (a .value)) (a .at) (lastSummary (a .summary) (a .value)) (at-least 8 _ (c .before .match .rest)))
 
 pub set-summary-spec : {M : Type 1} → statement M
 set-summary-spec =
@@ -53,6 +60,7 @@ set-summary-spec =
     low16-requires
     low16-requires-2
     low16-requires-3
+    low16-requires-4
     returns
     returns-2
     returns-3
@@ -60,4 +68,5 @@ set-summary-spec =
     returns-5
     returns-6
     returns-7
-    returns-8)
+    returns-8
+    returns-9)
