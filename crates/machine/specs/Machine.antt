@@ -198,9 +198,9 @@ unfoldable pub ramp : Sums → ReadingOption
 ramp u = rampOf (greatest 60 (u .seconds))
 
 unfoldable pub result : Test → Length → ℕ → Bool → Sums → ReadingOption
-result tests.None length extra marked u = None
-result Twenty length extra marked u = cond marked None (twenty length extra u)
-result tests.Ramp length extra marked u = ramp u
+result tests.None l extra marked u = None
+result Twenty l extra marked u = cond marked None (twenty l extra u)
+result tests.Ramp l extra marked u = ramp u
 
 -- "in a `Test` step the result, if any"
 abbrev pub resultIn : Workout → Step → Bool → Machine → ReadingOption

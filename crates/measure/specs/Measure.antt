@@ -169,9 +169,9 @@ rampFtp None = None
 rampFtp (Some best) = keptFtp ((best * 75 + 50) / 100)
 
 abbrev pub resultBy : Test → Length → Lap → Bool → Measured → ReadingOption
-resultBy tests.None length lap skipped m = None
-resultBy Twenty length lap skipped m = cond skipped None (twentyBy length lap m)
-resultBy tests.Ramp length lap skipped m = rampFtp (m .ring .«best_minute»)
+resultBy tests.None l lap skipped m = None
+resultBy Twenty l lap skipped m = cond skipped None (twentyBy l lap m)
+resultBy tests.Ramp l lap skipped m = rampFtp (m .ring .«best_minute»)
 
 -- player.rs, `result`: of the step that is ending, skipped or not.
 unfoldable pub resultOf : Test → StepNow → Lap → Bool → Measured → ReadingOption
