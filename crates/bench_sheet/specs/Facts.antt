@@ -11,7 +11,10 @@ use Rattle.model.specs.declared.Target.{Target}
 use Rattle.model.specs.declared.Target.the-variants as targets
 use Rattle.model.specs.declared.Test.the-variants as tests
 use Rattle.model.specs.declared.Step.{Step}
-use Rattle.model.specs.Target.{bandOf}
+use Rattle.model.specs.declared.BandOption.{BandOption}
+use Rattle.model.specs.declared.BandOption.the-variants as bands
+use Rattle.model.specs.declared.Metric.the-variants as metrics
+use Rattle.model.specs.Target.{band, bandOf}
 use Rattle.power.specs.declared.Power3s.{Power3s}
 use Rattle.power.specs.declared.ReadingOption.{ReadingOption}
 use Rattle.power.specs.declared.ReadingOption.the-variants.{None, Some}
@@ -40,6 +43,12 @@ event kind value = record { kind = kind; value = value }
 -- Compliance with a target at FTP 250 and LTHR 160, of a player that has read one sample.
 abbrev pub compliance : Target → Sample → ComplianceOption
 compliance target sample = complianceOf target (bandOf target (profile 250 160) 0) (profile 250 160) (taken sample noReadings)
+
+abbrev pub bandAt : Target → ℕ → BandOption
+bandAt target elapsed = bandOf target (profile 250 160) elapsed
+
+abbrev pub power : ℕ → ℕ → BandOption
+power low high = bands.Some (band metrics.Power low high)
 
 abbrev pub heart : ℕ → Sample
 heart bpm = record { «power_watts» = None; «heart_bpm» = Some bpm; «cadence_tenths» = None }
@@ -73,6 +82,13 @@ pub record Facts : Type 0 where
   pub absent : averageOf (added (Some 100) (added None (added (Some 150) noPower))) ≡ Some 125
   pub lone : averageOf (added None (added (Some 150) noPower)) ≡ Some 150
   pub no-reading : averageOf (added None noPower) ≡ None
+  -- model.rs, `band`: one of each kind of target, at FTP 250 and LTHR 160, some seconds into its step
+  pub no-target : bandAt targets.Free 0 ≡ bands.None
+  pub watts-band : bandAt (targets.Watts 100 200) 0 ≡ power 100 200
+  pub lthr-band : bandAt (targets.Lthr 81 90) 0 ≡ bands.Some (band metrics.Heart 130 144)
+  pub cadence-band : bandAt (targets.Cadence 85 95) 0 ≡ bands.Some (band metrics.Cadence 85 95)
+  pub ramp-band : (bandAt (targets.Ramp 100 20 60) 59 ≡ power 95 110) × (bandAt (targets.Ramp 100 20 60) 60 ≡ power 114 132)
+  pub ftp-ramp-band : (bandAt (targets.FtpRamp 50 5 60) 59 ≡ power 119 138) × (bandAt (targets.FtpRamp 50 5 60) 60 ≡ power 131 152)
   -- "FTP 250, 90 to 95%: 225 to 238.": a reading at either end is In
   pub low-end : (compliance (targets.Ftp 90 95) (watts 224) ≡ how.Some Under) × (compliance (targets.Ftp 90 95) (watts 225) ≡ how.Some In)
   pub high-end : (compliance (targets.Ftp 90 95) (watts 238) ≡ how.Some In) × (compliance (targets.Ftp 90 95) (watts 239) ≡ how.Some Over)

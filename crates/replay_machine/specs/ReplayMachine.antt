@@ -27,7 +27,7 @@ unfoldable pub machineAfter : Workout → List ℕ → Machine
 machineAfter w s = afterCalls w (profileIn s) (alone (sheetCalls s)) begun .machine
 
 -- For every file and sheet, of bytes, "such a workout" being one "without distance steps and ramp targets": where the replay isn't
--- refused, what it writes is the record of the machine, with whatever journal, id, start and output.
+-- refused (crate bench_ride has one), what it writes is the record of the machine, with whatever journal, id, start and output.
 abbrev pub ReplayMachine : Type 0
 ReplayMachine =
     (file s : List ℕ) → Bytes file → Bytes s → all isPlain (stepsOf (decodeOf file .workout)) ≡ true → (journal id start : ℕ) (dated : Bool) (out : List ℕ)

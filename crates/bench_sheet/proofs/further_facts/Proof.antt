@@ -4,7 +4,7 @@ use mathlib.Core.List.{flatMap}
 use Rattle.common.specs.Lists.{all, range, sum, allAt}
 use Rattle.names.specs.Names.{nameOk}
 use Rattle.zones.specs.Zones.{percentOf, heartZone, heartRange}
-use Rattle.model.specs.Target.{stageOf, stageWatts, wattsAt, rampBand, bandOf, capped, rampOption}
+use Rattle.model.specs.Target.{stageOf, stageWatts, wattsAt, rampBand, ofFtp, bandOf, capped, rampOption}
 use Rattle.blocks.specs.Blocks.{blocksSound, allApart, repeats}
 use Rattle.order.specs.Order.{plannedFrom, hasUntimed, run, runs, blockAt, order, playedLen, nth, stepAt, playedOf}
 use Rattle.form.specs.Form.{formOk, stepSlots, blockSlots, isNoStep}
@@ -25,7 +25,7 @@ use Rattle.bench_sheet.proofs.further_facts.Statement.{statement}
 use Rattle.bench_sheet.proofs.further_facts.Tie as tie
 
 returns : tie.Need-returns
-unfolding flatMap all range sum allAt nameOk percentOf heartZone heartRange bandOf capped rampOption blocksSound allApart repeats run runs blockAt order playedLen nth stepAt playedOf formOk stepSlots blockSlots isNoStep stepOk validAnswer workoutAnswer window meanBy average averageOf added taken complianceOf tallied shareOf untilEnd readCore measuredOf twentyFtp resultOf countdownsTo isOver arrived nextOf sameLength sameTarget sameStep sameBytes sameName onPlace coreOk standingOf advanced closed roundOf rounds fresh newOf rideNow updateAnswer rideAnswer rideOf readAnswer readOf untilOf pushed pushes rampPart rampBand wattsAt stageOf stageWatts readingOf judged remainingOf remainingSecs hasUntimed plannedFrom
+unfolding flatMap all range sum allAt nameOk percentOf heartZone heartRange bandOf capped rampOption blocksSound allApart repeats run runs blockAt order playedLen nth stepAt playedOf formOk stepSlots blockSlots isNoStep stepOk validAnswer workoutAnswer window meanBy average averageOf added taken complianceOf tallied shareOf untilEnd readCore measuredOf twentyFtp resultOf countdownsTo isOver arrived nextOf sameLength sameTarget sameStep sameBytes sameName onPlace coreOk standingOf advanced closed roundOf rounds fresh newOf rideNow updateAnswer rideAnswer rideOf readAnswer readOf untilOf pushed pushes rampPart rampBand ofFtp wattsAt stageOf stageWatts readingOf judged remainingOf remainingSecs hasUntimed plannedFrom
 returns c =
     record {
       three = refl;
@@ -33,6 +33,12 @@ returns c =
       absent = refl;
       lone = refl;
       no-reading = refl;
+      no-target = refl;
+      watts-band = refl;
+      lthr-band = refl;
+      cadence-band = refl;
+      ramp-band = (refl, refl);
+      ftp-ramp-band = (refl, refl);
       low-end = (refl, refl);
       high-end = (refl, refl);
       turns = (refl, refl);
