@@ -1,7 +1,7 @@
 //! Workouts to play, and lists of calls for them.
 use super::{
     CADENCE, FREE, FTP, FTP_RAMP, HEART_ZONE_TARGET, LTHR, PLAIN_STEP, RAMP_TARGET, Random, StepWords, Target, WATTS,
-    WorkoutWords, files, sound_target, sound_workout,
+    WorkoutWords, files, limits, sound_target, sound_workout,
 };
 use played::{ADD, Call, EXTEND, READ, RIDE, SKIP};
 
@@ -145,7 +145,7 @@ fn repeated(call: Call, count: usize) -> Vec<Call> {
 
 /// Lists at limits: touches up to question 15 and past it, of time and of way; totals up to question 13 and past it; the most
 /// events of one update; a ramp test that is ridden to its best minute and failed; two lines of the bench sheet: 1 ms with
-/// 500,000 mm in a step of 100 m, and 59,999 ms of a ramp test.
+/// 500,000 mm in a step of 100 m, and 59,999 ms of a ramp test. Then those of `limits`.
 pub fn limit_plays() -> Vec<Play> {
     let base = Call { ftp: 250, lthr: 160, power: 1 + 300, heart: 1 + 140, cadence: 1 + 900, ..Call::default() };
     let touch = Call { kind: EXTEND, ..base };
@@ -167,7 +167,7 @@ pub fn limit_plays() -> Vec<Play> {
     let zone = one(StepWords { target: [HEART_ZONE_TARGET, 3, 0, 0], ..PLAIN_STEP }, 0, &[]);
     let free = one(StepWords { length: [2, 0], target: [FREE, 0, 0, 0], ..PLAIN_STEP }, 0, &[]);
     let weak = Call { power: 1 + 20, ..read };
-    vec![
+    let mut plays = vec![
         Play { file: timed.clone(), calls: [repeated(touch, 1_442), vec![skip], repeated(touch, 2)].concat() },
         Play { file: distance.clone(), calls: vec![ride(1, 500_000)] },
         Play { file: tests.clone(), calls: vec![read, ride(59_999, 0), ride(1, 0)] },
@@ -185,7 +185,9 @@ pub fn limit_plays() -> Vec<Play> {
         },
         Play { file: zone, calls: repeated(add(3_333, 100), 5) },
         Play { file: free, calls: [repeated(add(DAY_MS, 1), 8), vec![skip]].concat() },
-    ]
+    ];
+    plays.extend(limits::plays());
+    plays
 }
 
 /// 10 s, 100 m and an open step, each played once, without targets or notes.

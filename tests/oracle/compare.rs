@@ -1,7 +1,7 @@
 //! Both sides at once: the Rust, and the Rattle of crates `compare` and `compare_files` from a static library, on every limit,
-//! on random inputs and on workout files, whole, damaged and random. Words: how many random inputs and as many random files,
-//! and the seed. Writes a line for each question, and how many files each question of document 01 refused. Fails where an
-//! answer differs, and where one of the refusals 1 to 9 wasn't met.
+//! on random inputs and on workout files, whole, damaged and random. Words: how many random inputs and as many random files
+//! (0: the limits alone, no damaged files either), and the seed. Writes a line for each question, and how many files each
+//! question of document 01 refused. Fails where an answer differs, and where one of the refusals 1 to 9 wasn't met.
 use inputs::{Random, files, limit_inputs, random_input};
 use questions::{FILE, FILL, LENT, NAMES, WRITTEN, answer, written_answer};
 
@@ -124,8 +124,8 @@ fn main() {
     for file in limit_inputs(FILE) {
         found.compare(&file, &mut tallies);
     }
-    for whole in files::whole_files() {
-        for file in files::damaged(&whole) {
+    for whole in files::whole_files().iter().filter(|_| count > 0) {
+        for file in files::damaged(whole) {
             found.compare(&file, &mut tallies);
         }
     }

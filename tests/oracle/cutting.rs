@@ -228,6 +228,12 @@ fn days() -> Vec<Call> {
     calls
 }
 
+/// Rides and skips with either array at question 14's limit, one below and one above.
+fn arrays() -> Vec<Call> {
+    let places = [[192, 193], [193, 192], [193, 193], [194, 193], [193, 194]];
+    places.into_iter().flat_map(|places| [Call::Ride(vec![(500, 0), (500, 0)], places), Call::Skip(places)]).collect()
+}
+
 /// What each call of the cut list is refused by, a list to a call of the uncut one.
 fn feed(machine: &mut Machine, call: &Call) -> Vec<u32> {
     match call {
@@ -360,6 +366,7 @@ fn main() {
         let calls = match i {
             0..8 => touches(),
             8 => days(),
+            9 => arrays(),
             _ => list(&mut random),
         };
         if let Some(fault) = compare(&workout, profile, &calls, &mut tally) {

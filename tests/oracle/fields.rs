@@ -1,6 +1,7 @@
-//! Players that no list of calls reaches: fields of ours set to their limits, one past them, and to anything. The Rust isn't
-//! asked. `Model::stands` has document 01's paragraph 'Standing'; a player that doesn't stand is refused 20 by every call and
-//! every report, and one that does is played and stands after each call. A field is its number in `compare_fields`.
+//! Players that no list of calls reaches: fields of ours set to their limits, one past them, and to anything; those without a
+//! limit too. The Rust isn't asked. `Model::stands` has document 01's paragraph 'Standing'; a player that doesn't stand is
+//! refused 20 by every call and every report, and one that does is played and stands after each call. A field is its number in
+//! `compare_fields`.
 use inputs::Random;
 use inputs::calls::fields_file;
 use played::{ADD, Call, EXTEND, READ, RIDE, SET, SKIP, WORDS};
@@ -20,6 +21,7 @@ const REST_MS: usize = 34;
 const LOW_MS: usize = 35;
 const RING_AT: usize = 36;
 const RING_LEN: usize = 37;
+const BEST_MINUTE: usize = 38;
 const TARGETED: usize = 48;
 const IN: usize = 49;
 const UNDER: usize = 50;
@@ -28,6 +30,7 @@ const STEPS_DONE: usize = 52;
 const SUMMARY_STEPS: usize = 53;
 const SKIPPED: usize = 54;
 const FINISHED: usize = 55;
+const FTP: usize = 56;
 const INDEX: usize = 64;
 const REPETITION: usize = 65;
 const OF: usize = 66;
@@ -38,15 +41,27 @@ const WARMUP: usize = 70;
 const HEART_ZONE: usize = 71;
 const CADENCE: usize = 80;
 const PLACE: usize = 81;
+const HEART: usize = 82;
+const POWER: usize = 83;
+/// The average's places: their watts, present from 65,536 on.
+const AVERAGE_1: usize = 84;
+const AVERAGE_2: usize = 85;
+const AVERAGE_0: usize = 86;
 const STEP_COUNT: usize = 96;
 const BLOCK_COUNT: usize = 97;
 const NOTE_LEN: usize = 112;
+/// The ring's watts at its first place, in its middle and at its last.
+const RING_0: usize = 180;
+const RING_30: usize = 210;
+const RING_59: usize = 239;
+const NUMBERS: usize = 240;
 
 /// The steps of `fields_file`: 10 s, 100 m, open. Each plays once, so the order's places are the steps'.
 const LENGTHS: [(usize, u64); 3] = [(TIME, 10), (DISTANCE, 100), (OPEN, 0)];
 
-/// Each field with the number of its bits, and values at and past its limits.
-const FIELDS: [(usize, u32, &[u64]); 36] = [
+/// Each field with the number of its bits, and values at and past its limits. The last ten have none in 'Standing': they stand at
+/// any value.
+const FIELDS: [(usize, u32, &[u64]); 46] = [
     (POSITION, 64, &[0, 1, 2, 3, 4, 95, 96, 97]),
     (STEPS, 64, &[0, 1, 2, 3, 4, 96, 97]),
     (TOTAL_MS, 64, &[0, 4_999, 5_000, 49_999, 50_000, 604_800_000, 604_800_001]),
@@ -83,7 +98,20 @@ const FIELDS: [(usize, u32, &[u64]); 36] = [
     (STEP_COUNT, 8, &[0, 1, 2, 3, 4, 12, 13]),
     (BLOCK_COUNT, 8, &[0, 1, 8, 9]),
     (NOTE_LEN, 8, &[0, 1, 20, 21]),
+    (FTP, 16, &[0, 1, 49, 50, 600, 601, 65_534]),
+    (BEST_MINUTE, 16, &[0, 1, 65, 66, 800, 801, 65_534]),
+    (HEART, 16, &[0, 1, 255, 256, 65_534]),
+    (POWER, 16, &[0, 1, 2_000, 2_001, 65_534]),
+    (AVERAGE_0, 17, &AVERAGES),
+    (AVERAGE_1, 17, &AVERAGES),
+    (AVERAGE_2, 17, &AVERAGES),
+    (RING_0, 16, &[0, 1, 2_000, 2_001, 65_534]),
+    (RING_30, 16, &[0, 1, 2_000, 2_001, 65_534]),
+    (RING_59, 16, &[0, 1, 2_000, 2_001, 65_534]),
 ];
+
+/// Absent with watts or without, present with none, some and the most.
+const AVERAGES: [u64; 6] = [0, 1, 65_536, 65_537, 67_537, 131_071];
 
 /// Values that any field may be set to: half of 64 bits, and the greatest of each width.
 const ANY: [u64; 6] = [1 << 63, u64::MAX, u32::MAX as u64, 65_535, 255, 7];
@@ -91,7 +119,7 @@ const ANY: [u64; 6] = [1 << 63, u64::MAX, u32::MAX as u64, 65_535, 255, 7];
 #[derive(Clone, Copy)]
 struct Model {
     /// By the field's number; of the step on now a length is kept beside.
-    values: [u64; 128],
+    values: [u64; NUMBERS],
     length: (usize, u64),
     /// The step's own intensity and target.
     own: bool,
@@ -101,7 +129,7 @@ impl Model {
     /// A player that stands after `skips` skips, with something in every field, and the calls that make it.
     fn base(skips: usize) -> (Self, Vec<Call>) {
         let done = skips == LENGTHS.len();
-        let mut values = [0; 128];
+        let mut values = [0; NUMBERS];
         let on = skips.min(LENGTHS.len() - 1);
         for field in [POSITION, STEPS_DONE, SKIPPED] {
             values[field] = skips as u64;
@@ -131,6 +159,12 @@ impl Model {
             (OVER, 10),
             (CADENCE, 900),
             (PLACE, 1),
+            (FTP, 250),
+            (BEST_MINUTE, 300),
+            (HEART, 140),
+            (POWER, 200),
+            (AVERAGE_1, 65_536 + 200),
+            (RING_30, 200),
         ];
         let lap = [(STEP_MS, 5_000), (STEP_MM, 50_000), (EXTRA_S, 120), (EXTRA_M, 500)];
         for (field, value) in rest.into_iter().chain(lap.into_iter().filter(|_| !done)) {
@@ -289,6 +323,12 @@ pub fn try_fields(ours: Ours, count: u64, random: &mut Random) -> Tally {
         try_player(ours, &file, skips, &[(IN, half), (UNDER, half), (OVER, 0), (TARGETED, 0)], &mut tally);
         try_player(ours, &file, skips, &[(TEST_MJ, u64::MAX), (TEST_MS, u64::MAX)], &mut tally);
         try_player(ours, &file, skips, &[(STEP_COUNT, 4), (STEPS, 4), (SUMMARY_STEPS, 4)], &mut tally);
+        // Those without a limit together, at 0 and at their greatest.
+        for value in [0, u64::MAX] {
+            let sets: Vec<(usize, u64)> =
+                FIELDS[FIELDS.len() - 10..].iter().map(|&(field, ..)| (field, value)).collect();
+            try_player(ours, &file, skips, &sets, &mut tally);
+        }
     }
     for _ in 0..count {
         let sets: Vec<(usize, u64)> = (0..1 + random.below(3))

@@ -1,6 +1,7 @@
 //! Workout files: limits, every byte at every value, cuts, and random ones, sound or damaged.
 use super::{
-    FREE, HEART_ZONE_TARGET, Random, StepWords, WorkoutWords, altered, limit_workouts, sound_step, sound_workout,
+    FREE, FTP_RAMP, HEART_ZONE_TARGET, PLAIN_STEP, RAMP_TARGET, Random, StepWords, WorkoutWords, altered,
+    limit_workouts, sound_step, sound_workout,
 };
 use firmware_services::checksum::crc32;
 
@@ -132,6 +133,11 @@ pub fn limit_files() -> Vec<Vec<u8>> {
         files.extend(VALUES.iter().flat_map(|&value| with_byte(&file, at, value)[1..].to_vec()));
     }
     files.extend(limit_workouts().iter().map(without_notes));
+    files.extend(
+        limit_steps()
+            .iter()
+            .map(|&step| without_notes(&WorkoutWords { steps: vec![step], ..WorkoutWords::plain(1, &[]) })),
+    );
     files.extend(one_more(&longest(), 0));
     files.extend([
         // Fillers: read past.
@@ -157,6 +163,26 @@ pub fn limit_files() -> Vec<Vec<u8>> {
         mended(b"VW\x01\0\0\x01\0\x01\x02\0\0\0\0\0\0\0\0\0\0\0\0\x05AB"),
     ]);
     files
+}
+
+/// Steps at both sides of what a step's bytes may hold.
+fn limit_steps() -> Vec<StepWords> {
+    let open = |target| StepWords { length: [2, 0], target, ..PLAIN_STEP };
+    let mut steps = Vec::new();
+    for length in [[0, 65_535], [0, 65_536], [0, u32::MAX], [1, 65_536], [2, 1], [3, 0]] {
+        steps.push(StepWords { length, ..PLAIN_STEP });
+    }
+    steps.extend([4, 5].map(|intensity| StepWords { intensity, ..PLAIN_STEP }));
+    for kind in 0..=8 {
+        let values = match kind {
+            HEART_ZONE_TARGET => [[1, 1, 0], [256, 0, 0], [1, 256, 0], [1, 0, 1]],
+            RAMP_TARGET => [[1, 1, 1], [256, 1, 1], [1, 256, 1], [1, 1, 256]],
+            FTP_RAMP => [[1, 1, 1], [256, 1, 1], [1, 256, 1], [1, 1, 256]],
+            _ => [[1, 1, 0], [256, 256, 0], [1, 256, 0], [1, 1, 1]],
+        };
+        steps.extend(values.map(|[a, b, c]| open([kind, a, b, c])));
+    }
+    steps
 }
 
 /// A file with some bytes of its first step set, mended.

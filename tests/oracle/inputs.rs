@@ -1,6 +1,7 @@
 //! Inputs for each question, and lists of calls on a player: limits, and random ones from a seed.
 pub mod calls;
 pub mod files;
+pub mod limits;
 pub mod records;
 
 use questions::*;
@@ -463,6 +464,7 @@ fn limit_workouts() -> Vec<WorkoutWords> {
         }
         if high < most {
             steps.push(open([kind, 1, high + 1, 0]));
+            steps.push(open([kind, high + 1, high + 1, 0]));
         }
     }
     steps.extend([0, 1, 2, 3, 4, 5, 6, 7, 255].map(|zone| open([HEART_ZONE_TARGET, zone, 0, 0])));

@@ -58,7 +58,7 @@ impl Call {
         TrainingProfile { ftp_watts: self.ftp as u16, lthr_bpm: self.lthr as u16 }
     }
 
-    fn sample(&self) -> Sample {
+    pub fn sample(&self) -> Sample {
         let reading = |word: u32| word.checked_sub(1).map(|value| value as u16);
         Sample {
             power_watts: reading(self.power),

@@ -2,8 +2,10 @@
 //! limits and random ones from a seed. The Rust has neither a sheet nor the questions 10 to 17 and 19, so these are asked here,
 //! as the paper's sentences have them.
 use inputs::Random;
-use inputs::calls::random_play;
+use inputs::calls::{Play, random_play};
 use inputs::files::{limit_files, longest, random_file};
+use inputs::limits;
+use played::{Call, EXTEND, READ, RIDE, SKIP};
 use std::sync::LazyLock;
 use vana::ride::{log::Sample, zones::TrainingProfile};
 use vana::workout::codec;
@@ -536,11 +538,35 @@ fn record_limits() -> Vec<Replay> {
     replays
 }
 
+fn act_of(call: &Call) -> Option<Act> {
+    match call.kind {
+        READ => Some(Act::Read(call.sample())),
+        RIDE => Some(Act::Ride(call.ms, call.mm)),
+        SKIP => Some(Act::Skip),
+        EXTEND => Some(Act::Extend),
+        _ => None,
+    }
+}
+
+/// A play as a replay, if it has one profile and no call that a sheet hasn't.
+fn replay_play(play: &Play) -> Option<Replay> {
+    let profiles: Vec<(u32, u32)> = play.calls.iter().map(|call| (call.ftp, call.lthr)).collect();
+    let (ftp, lthr) = profiles[0];
+    let acts: Option<Vec<Act>> = play.calls.iter().map(act_of).collect();
+    let sheet = sheet_of(&[&[Act::Profile(ftp as u16, lthr as u16)], &acts?[..]].concat());
+    profiles.iter().all(|&profile| profile == (ftp, lthr)).then(|| replay_of(play.file.clone(), sheet))
+}
+
+/// The limits of the player.
+fn player_limits() -> Vec<Replay> {
+    limits::plays().iter().filter_map(replay_play).collect()
+}
+
 /// Each limit, and what stands beside it.
 pub fn limit_replays() -> Vec<Replay> {
     let first = replay_of(first_file(), with_profile(&[read(Some(150), None, None), Act::Ride(10_000, 0)]));
-    [vec![first], file_limits(), act_limits(), sheet_limits(), long_sheets(), question_order(), record_limits()]
-        .concat()
+    let limits = [file_limits(), act_limits(), sheet_limits(), long_sheets(), question_order(), record_limits()];
+    [vec![first], limits.concat(), player_limits()].concat()
 }
 
 // ---- random replays
