@@ -68,7 +68,7 @@ inOrder test steps =
     }
 
 abbrev pub step : Intensity → Length → Step
-step i l = record { intensity = i; length = l; target = targets.Free; note = emptyName }
+step intensity lasts = record { intensity = intensity; length = lasts; target = targets.Free; note = emptyName }
 
 abbrev pub watts : ℕ → Sample
 watts w = record { «power_watts» = Some w; «heart_bpm» = None; «cadence_tenths» = None }

@@ -106,7 +106,7 @@ abbrev pub longerBy : ℕ → ℕ → Player → Extended
 longerBy secs metres p = extendedBy p (longerCore secs metres (p .core))
 
 unfoldable pub extendBy : ℕ → ℕ → Length → Player → Extended
-extendBy secs metres l p = extendedBy p (extendCore secs metres l (p .core))
+extendBy secs metres lasts p = extendedBy p (extendCore secs metres lasts (p .core))
 
 -- What `extend_core` supposes: extras within their limits.
 pub record ExtraFits (c : Core) (secs metres : ℕ) : Type 0 where
