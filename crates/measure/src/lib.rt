@@ -230,11 +230,11 @@ fn twenty_ftp(measured: Measured, end_ms: u64) -> ReadingOption
     kept_ftp((average * 95 + 50) / 100)
 }
 
-fn twenty_result(length: Length, lap: Lap, measured: Measured) -> ReadingOption
+fn twenty_result(lasts: Length, lap: Lap, measured: Measured) -> ReadingOption
     requires { ⌜ (measured .«test_mj» ≤ 65535 * measured .«test_ms») × (measured .«test_ms» ≤ 604800000) ⌝ }
-    ensures { λ r. ⌜ r ≡ twentyBy length lap measured ⌝ }
+    ensures { λ r. ⌜ r ≡ twentyBy lasts lap measured ⌝ }
 {
-    match length {
+    match lasts {
         Length::Time(secs) => twenty_ftp(measured, lap.duration_ms(secs)),
         Length::Distance(_) => ReadingOption::None,
         Length::Open => ReadingOption::None,

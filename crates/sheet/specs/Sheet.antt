@@ -118,7 +118,7 @@ acceptedAll = record { answer = Accepted; act = None }
 abbrev pub refusedAt : Refusal → ActOption → ActAnswer
 refusedAt refusal act = record { answer = Refused refusal; act = act }
 
--- "17 .. name[s] the first act at fault"
+-- "17 and all refusals of acts name the first act at fault"
 abbrev pub faultAnswer : ℕ → ℕ → ActAnswer
 faultAnswer fault n = cond (ltb fault n) (refusedAt refusals.Act (Some fault)) acceptedAll
 

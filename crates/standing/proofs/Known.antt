@@ -186,12 +186,12 @@ module _ (p : Player) where
       and-both (ap accepted (k .core .within .valid)) (and-both (known-core (p .workout) (p .core) (k .core)) (and-both (k .core .within .step) (k .note)))
 
 -- the seconds that were added, done or not
-pub extra-known : (done : Bool) (length : Length) (lap : Lap) → lapOk done length lap ≡ true → lap .«extra_s» ≤ 86400
-extra-known true length lap e =
+pub extra-known : (done : Bool) (lasts : Length) (lap : Lap) → lapOk done lasts lap ≡ true → lap .«extra_s» ≤ 86400
+extra-known true lasts lap e =
     let ms = eqb (lap .«step_ms») 0 in
     let mm = eqb (lap .«step_mm») 0 in
     let s = eqb (lap .«extra_s») 0 in
     omega (arith, eqb-true (lap .«extra_s») 0 (and-right (ms && mm) s (and-left (ms && mm && s) (eqb (lap .«extra_m») 0) e)))
-extra-known false length lap e =
+extra-known false lasts lap e =
     let s = leb (lap .«extra_s») 86400 in
-    leb-true (lap .«extra_s») 86400 (and-right (belowEnd length lap) s (and-left (belowEnd length lap && s) (leb (lap .«extra_m») 1000000) e))
+    leb-true (lap .«extra_s») 86400 (and-right (belowEnd lasts lap) s (and-left (belowEnd lasts lap && s) (leb (lap .«extra_m») 1000000) e))

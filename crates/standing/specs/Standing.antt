@@ -3,7 +3,7 @@ use mathlib.Core.Bool.{Bool, true, false, cond, not, _&&_}
 use mathlib.Core.List.{List}
 use Prim.Native.Nat.{ℕ, _+_, _-_, _*_}
 use lib.Dec.{ltb, leb, eqb}
-use lib.ListN.{length, getD}
+use lib.ListN.{getD}
 use Rattle.common.specs.Lists.{allAt}
 use Rattle.refusal.specs.declared.Answer.{Answer}
 use Rattle.refusal.specs.declared.Answer.the-variants.{Accepted, Refused}
@@ -82,8 +82,8 @@ belowEnd Open lap = true
 
 -- "extra within 86,400 s or, in a distance step, 1,000,000 m"
 abbrev pub lapOk : Bool → Length → Lap → Bool
-lapOk done length lap =
-    cond done (fresh lap) (belowEnd length lap && leb (lap .«extra_s») 86400 && leb (lap .«extra_m») 1000000)
+lapOk done lasts lap =
+    cond done (fresh lap) (belowEnd lasts lap && leb (lap .«extra_s») 86400 && leb (lap .«extra_m») 1000000)
 
 -- "totals .. within limits", "step amounts within totals"
 abbrev pub totalsOk : Core → Bool

@@ -129,23 +129,23 @@ fn is_fresh(lap: Lap) -> bool
     (lap.step_ms == 0) & (lap.step_mm == 0) & (lap.extra_s == 0) & (lap.extra_m == 0)
 }
 
-fn below_end(length: Length, lap: Lap) -> bool
-    ensures { λ r. ⌜ r ≡ belowEnd length lap ⌝ }
+fn below_end(lasts: Length, lap: Lap) -> bool
+    ensures { λ r. ⌜ r ≡ belowEnd lasts lap ⌝ }
 {
-    match length {
+    match lasts {
         Length::Time(secs) => lap.step_ms < lap.duration_ms(secs),
         Length::Distance(metres) => lap.step_mm < lap.distance_mm(metres),
         Length::Open => true,
     }
 }
 
-fn lap_ok(done: bool, length: Length, lap: Lap) -> bool
-    ensures { λ r. ⌜ r ≡ lapOk done length lap ⌝ }
+fn lap_ok(done: bool, lasts: Length, lap: Lap) -> bool
+    ensures { λ r. ⌜ r ≡ lapOk done lasts lap ⌝ }
 {
     if done {
         return is_fresh(lap);
     }
-    below_end(length, lap) & (lap.extra_s <= 86400) & (lap.extra_m <= 1000000)
+    below_end(lasts, lap) & (lap.extra_s <= 86400) & (lap.extra_m <= 1000000)
 }
 
 fn totals_ok(core: Core) -> bool

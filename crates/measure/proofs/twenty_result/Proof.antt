@@ -3,8 +3,8 @@ use borrow.Author.Needs.{needs}
 use Rattle.measure.proofs.twenty_result.Statement.{statement}
 use Rattle.measure.proofs.twenty_result.Tie as tie
 
-enum-known-length : tie.Need-enum-known-length
-enum-known-length c = search needs
+enum-known-lasts : tie.Need-enum-known-lasts
+enum-known-lasts c = search needs
 
 duration-ms-requires : tie.Need-duration-ms-requires
 duration-ms-requires c κs = search needs
@@ -19,7 +19,7 @@ enum-told-2 : tie.Need-enum-told-2
 enum-told-2 c = search needs
 
 returns : tie.Need-returns
-returns c = simp (c .before .before .before .length .given .1, c .twenty-ftp .ensures, c .before .duration-ms .ensures)
+returns c = simp (c .before .before .before .lasts .given .1, c .twenty-ftp .ensures, c .before .duration-ms .ensures)
 
 returns-2 : tie.Need-returns-2
 returns-2 c = search needs
@@ -31,7 +31,7 @@ pub twenty-result-spec : {M : Type 1} → statement M
 twenty-result-spec =
     tie.close
     (tie.spec
-    enum-known-length
+    enum-known-lasts
     duration-ms-requires
     twenty-ftp-requires
     enum-told
