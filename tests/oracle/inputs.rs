@@ -310,7 +310,8 @@ pub fn random_input(random: &mut Random, question: usize) -> Vec<u8> {
 
 /// Each input at the limits of `question`.
 pub fn limit_inputs(question: usize) -> Vec<Vec<u8>> {
-    const PROFILES: [[u32; 2]; 7] = [[50, 1], [50, 255], [600, 1], [600, 255], [250, 160], [0, 0], [65_535, 65_535]];
+    // 81 % of 129 is 104.49.
+    const PROFILES: [[u32; 2]; 7] = [[50, 1], [50, 255], [600, 129], [600, 255], [250, 160], [0, 0], [65_535, 65_535]];
     let mut words: Vec<Vec<u32>> = Vec::new();
     match question {
         PERCENT => {
