@@ -3,17 +3,18 @@
 use mathlib.Core.Path.{_≡_, refl, sym, ap, _∙_, subst}
 use mathlib.Core.List.{List, [], _∷_}
 use Prim.Native.Nat.{ℕ}
+use native.Mathlib.Nat.{add-zero}
 use native.Mathlib.Omega.{arith}
 use Rattle.refusal.specs.declared.Answer.{Answer}
 use Rattle.refusal.specs.declared.Answer.the-variants.{Accepted}
 use Rattle.zones.specs.declared.TrainingProfile.{TrainingProfile}
 use Rattle.model.specs.declared.Workout.{Workout}
 use Rattle.machine.specs.Machine.{Machine, stepAt, reading, withExtra, extraAfter, skipped, milliseconds}
-use Rattle.machine.specs.Cutting.{Call, read, ride, skip, extend, Piece, CutCall, uncut, Cuts, WellCut, AllWellCut}
+use Rattle.machine.specs.Cutting.{Call, read, ride, skip, extend, Piece, CutCall, uncut, sumMs, sumMm, Cuts, WellCut, AllWellCut, own, alone}
 use Rattle.machine.specs.Runs.{Progress, begun, readAsks, skipAsks, extendAsks, unlessRefused, afterPieces, afterCall, afterCalls, piecesAsk, callAsks, callsAsk, lasts}
 use Rattle.machine.specs.ThirdDemand.{AllAccepted, CuttingsAgree}
 use Rattle.machine.proofs.Pieces.{pieces-at-once}
-use Rattle.machine.proofs.Unrefused.{accepted-left, accepted-right}
+use Rattle.machine.proofs.Unrefused.{accepted-left, accepted-right, list-unrefused}
 
 module _ (w : Workout) (p : TrainingProfile) where
   -- a call that isn't a ride
@@ -61,5 +62,35 @@ module _ (w : Workout) (p : TrainingProfile) where
       list-same l k f' g' rest (h .1) (i .1) here (accepted-right (callAsks w p (c .call) (c .pieces) f) (callsAsk w p l f') a)
       (accepted-right (callAsks w p (d .call) (d .pieces) g) (callsAsk w p k g') b)
 
+-- A list as it stands is one of its own cuttings.
+
+own-well : (c : Call) → WellCut c (own c)
+unfolding own sumMs sumMm
+own-well (read sample) = tt
+own-well (ride ms mm kinds values) = record { some = omega arith; ms-sum = add-zero ms; mm-sum = add-zero mm }
+own-well (skip kinds values) = tt
+own-well extend = tt
+
+alone-well : (cs : List Call) → AllWellCut (alone cs)
+unfolding alone
+alone-well [] = tt
+alone-well (c ∷ cs) = (own-well c, alone-well cs)
+
+alone-uncut : (cs : List Call) → uncut (alone cs) ≡ cs
+unfolding alone uncut
+alone-uncut [] = refl
+alone-uncut (c ∷ cs) = ap (λ (rest : List Call). c ∷ rest) (alone-uncut cs)
+
+both : (w : Workout) (p : TrainingProfile) (l k : List CutCall) → uncut l ≡ uncut k → AllWellCut l → AllWellCut k → AllAccepted (callsAsk w p l begun)
+    → AllAccepted (callsAsk w p k begun) → afterCalls w p l begun .machine ≡ afterCalls w p k begun .machine
+both w p l k q h i a b = sym (list-same w p l k begun begun q h i refl a b)
+
 pub cuttings-agree : CuttingsAgree
-cuttings-agree w p l k q h i a b = sym (list-same w p l k begun begun q h i refl a b)
+cuttings-agree =
+    record {
+      both = both;
+      as-it-stands =
+          λ w p l h a.
+          both w p l (alone (uncut l)) (sym (alone-uncut (uncut l))) h (alone-well (uncut l))
+          (list-unrefused w p l begun begun h refl (record { ms = omega arith; mm = omega arith }) a) a;
+    }

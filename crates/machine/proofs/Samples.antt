@@ -12,7 +12,7 @@ use Rattle.validation.specs.Sound.{stepOk, validAnswer, workoutAnswer}
 use Rattle.standing.specs.Standing.{sameLength, sameTarget, sameStep, sameBytes, sameName, onPlace, coreOk, standingOf}
 use Rattle.start.specs.Start.{fresh, newOf}
 use Rattle.player.specs.Calls.{skipAnswer, skipOf}
-use Rattle.machine.specs.Cutting.{uncut, sumMs, sumMm}
+use Rattle.machine.specs.Cutting.{uncut, own, alone, sumMs, sumMm}
 use Rattle.order.specs.Order as order
 use Rattle.order.specs.Order.{playedOf, playedLen, nth, run, runs, blockAt}
 use Rattle.machine.specs.Machine.{start, stepAt, isFinished, reading, withExtra, skipped, ended, result, ramp, twenty, mean, greatest, tally, summed, rested, ridden, endsNow, closed, present, readingFor, millisecondIn, millisecond, milliseconds, summaryOf}
@@ -20,7 +20,7 @@ use Rattle.machine.specs.Runs.{called, begun, pieceAsks, unlessRefused, 
 use Rattle.machine.specs.Samples.{Samples}
 
 pub samples-are : Samples
-unfolding milliseconds millisecond millisecondIn closed ridden ended endsNow summed rested tally readingFor reading withExtra skipped start stepAt isFinished playedOf order.stepAt playedLen order.order nth run runs blockAt sum range repeats bandOf present summaryOf result ramp twenty mean greatest begun pieceAsks unlessRefused withPiece afterPiece afterPieces afterCall afterCalls piecesAsk callAsks callsAsk flatMap all allAt nameOk percentOf heartZone heartRange capped blocksSound allApart formOk stepSlots blockSlots isNoStep stepOk validAnswer workoutAnswer sameLength sameTarget sameStep sameBytes sameName onPlace coreOk standingOf fresh newOf skipAnswer skipOf uncut sumMs sumMm called
+unfolding milliseconds millisecond millisecondIn closed ridden ended endsNow summed rested tally readingFor reading withExtra skipped start stepAt isFinished playedOf order.stepAt playedLen order.order nth run runs blockAt sum range repeats bandOf present summaryOf result ramp twenty mean greatest begun pieceAsks unlessRefused withPiece afterPiece afterPieces afterCall afterCalls piecesAsk callAsks callsAsk flatMap all allAt nameOk percentOf heartZone heartRange capped blocksSound allApart formOk stepSlots blockSlots isNoStep stepOk validAnswer workoutAnswer sameLength sameTarget sameStep sameBytes sameName onPlace coreOk standingOf fresh newOf skipAnswer skipOf uncut own alone sumMs sumMm called
 samples-are =
     record {
       taken = record { passes = refl; plain = refl };
@@ -29,6 +29,7 @@ samples-are =
       in-memory = record { twelve = refl; reads = (omega arith, (tt, (tt, (tt, tt)))) };
       one-list = refl;
       not-refused = ((refl, (refl, (refl, (refl, (refl, tt))))), (refl, (refl, (refl, (refl, (refl, tt))))));
+      as-it-stands = (refl, (refl, (refl, (refl, tt))));
       skip-refused = refl;
       two = refl;
       three = refl;

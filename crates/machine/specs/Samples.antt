@@ -29,7 +29,7 @@ use Rattle.readings.specs.declared.Sample.{Sample}
 use Rattle.events.specs.Events.{Event}
 use Rattle.start.specs.Start.{newOf}
 use Rattle.machine.specs.Machine.{Machine, Judged, isUnder, isIn, isOver, isNothing, readingFor, judgedBy, summaryOf}
-use Rattle.machine.specs.Cutting.{Call, read, ride, skip, extend, CutCall, uncut, AllWellCut}
+use Rattle.machine.specs.Cutting.{Call, read, ride, skip, extend, CutCall, uncut, alone, AllWellCut}
 use Rattle.machine.specs.Runs.{called, begun, afterCalls, callsAsk}
 use Rattle.machine.specs.ThirdDemand.{Taken, InMemory, AllAccepted}
 
@@ -111,6 +111,7 @@ pub record Samples : Type 0 where
   -- one list, cut in two ways, and nothing refused
   pub one-list : uncut cutOnce ≡ uncut cutAgain
   pub not-refused : AllAccepted (callsAsk single profile cutOnce begun) × AllAccepted (callsAsk single profile cutAgain begun)
+  pub as-it-stands : AllAccepted (callsAsk single profile (alone (uncut cutOnce)) begun)
   -- a player's call that is refused
   pub skip-refused : called profile (skip 193 192) (newOf single .player) .answer ≡ Refused refusals.EventPlaces
   -- "Readings 100, 101: 101.", and of three; one that is absent counts for nothing

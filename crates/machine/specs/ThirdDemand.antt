@@ -37,7 +37,7 @@ use Rattle.state.specs.declared.Player.{Player}
 use Rattle.start.specs.Start.{newOf}
 use Rattle.history.specs.Record.{recordOf, recordBytes}
 use Rattle.machine.specs.Machine.{Machine, greatest, milliseconds, summaryOf}
-use Rattle.machine.specs.Cutting.{Call, CutCall, Piece, uncut, cut, sumMs, AllWellCut, ReadsFit}
+use Rattle.machine.specs.Cutting.{Call, CutCall, Piece, uncut, cut, alone, sumMs, AllWellCut, ReadsFit}
 use Rattle.machine.specs.Runs.{called, Run, run, Progress, begun, afterPieces, afterCalls, piecesAsk, callsAsk, lasts}
 
 -- "A distance step has length kind 1"
@@ -132,12 +132,13 @@ pub record PiecesAtOnce : Type 0 where
   pub unrefused : (w : Workout) (p : TrainingProfile) (kinds values : ℕ) (qs : List Piece) (s : Progress)
       → AllAccepted (piecesAsk w p kinds values qs s) → lasts w p kinds values qs s ≡ sumMs qs
 
--- "the pieces count only for what is refused": two cuttings of one list in which nothing is refused, the list as it stands (`alone`)
--- among them, bring the machine to the same state.
-abbrev pub CuttingsAgree : Type 0
-CuttingsAgree =
-    (w : Workout) (p : TrainingProfile) (l k : List CutCall) → uncut l ≡ uncut k → AllWellCut l → AllWellCut k → AllAccepted (callsAsk w p l begun)
-    → AllAccepted (callsAsk w p k begun) → afterCalls w p l begun .machine ≡ afterCalls w p k begun .machine
+-- "the pieces count only for what is refused", of a whole list: two cuttings of one list in which nothing is refused bring the machine
+-- to the same state; and where nothing is refused of the list as it stands, every cutting brings it to the same state as that.
+pub record CuttingsAgree : Type 0 where
+  pub both : (w : Workout) (p : TrainingProfile) (l k : List CutCall) → uncut l ≡ uncut k → AllWellCut l → AllWellCut k → AllAccepted (callsAsk w p l begun)
+      → AllAccepted (callsAsk w p k begun) → afterCalls w p l begun .machine ≡ afterCalls w p k begun .machine
+  pub as-it-stands : (w : Workout) (p : TrainingProfile) (l : List CutCall) → AllWellCut l → AllAccepted (callsAsk w p (alone (uncut l)) begun)
+      → afterCalls w p l begun .machine ≡ afterCalls w p (alone (uncut l)) begun .machine
 
 -- "What is refused as the cut list runs counts for nothing in player": a refused call leaves the player and gives no events.
 abbrev pub RefusedStays : Type 0
