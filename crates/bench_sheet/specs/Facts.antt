@@ -1,7 +1,7 @@
 -- Examples of document 01's sentences beside its bench sheet, and of the Rust where the paper says 'as there': averages, bands, parts,
 -- countdowns, seconds left, ramps. The definitions are held against these: one made wrong together with the code is refused here.
 use mathlib.Core.Path.{_≡_}
-use mathlib.Core.List.{List, [], _∷_}
+use mathlib.Core.List.{[], _∷_}
 use Prim.Native.Nat.{ℕ}
 use Rattle.names.specs.Names.{emptyName}
 use Rattle.zones.specs.Zones.{heartZone}
@@ -16,7 +16,6 @@ use Rattle.model.specs.declared.BandOption.the-variants as bands
 use Rattle.model.specs.declared.Metric.the-variants as metrics
 use Rattle.model.specs.Target.{band, bandOf}
 use Rattle.power.specs.declared.Power3s.{Power3s}
-use Rattle.power.specs.declared.ReadingOption.{ReadingOption}
 use Rattle.power.specs.declared.ReadingOption.the-variants.{None, Some}
 use Rattle.power.specs.Power.{added, averageOf}
 use Rattle.readings.specs.declared.Sample.{Sample}

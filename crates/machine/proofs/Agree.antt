@@ -11,7 +11,7 @@ use Rattle.zones.specs.declared.TrainingProfile.{TrainingProfile}
 use Rattle.model.specs.declared.Workout.{Workout}
 use Rattle.machine.specs.Machine.{Machine, stepAt, reading, withExtra, extraAfter, skipped, milliseconds}
 use Rattle.machine.specs.Cutting.{Call, read, ride, skip, extend, Piece, CutCall, uncut, sumMs, sumMm, Cuts, WellCut, AllWellCut, own, alone}
-use Rattle.machine.specs.Runs.{Progress, begun, readAsks, skipAsks, extendAsks, unlessRefused, afterPieces, afterCall, afterCalls, piecesAsk, callAsks, callsAsk, lasts}
+use Rattle.machine.specs.Runs.{Progress, begun, readAsks, skipAsks, extendAsks, unlessRefused, afterPieces, afterCall, afterCalls, piecesAsk, callAsks, callsAsk}
 use Rattle.machine.specs.ThirdDemand.{AllAccepted, CuttingsAgree}
 use Rattle.machine.proofs.Pieces.{pieces-at-once}
 use Rattle.machine.proofs.Unrefused.{accepted-left, accepted-right, list-unrefused}

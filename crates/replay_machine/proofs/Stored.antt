@@ -3,7 +3,6 @@ use mathlib.Core.Path.{_≡_, ap, ap₂, _∙_}
 use mathlib.Core.Bool.{Bool, true}
 use mathlib.Core.List.{List}
 use Prim.Native.Nat.{ℕ, _≤_}
-use lib.Dec.{leb}
 use lib.ListN.{length}
 use borrow.Author.Tests.{le-leb}
 use Rattle.le.specs.Le.{written}
@@ -25,7 +24,7 @@ use Rattle.machine.specs.ThirdDemand.{Taken, InMemory, cutRun, machineRecord}
 use Rattle.machine.proofs.Scope.{Held}
 use Rattle.machine.proofs.Demand.{after-list, summary-is}
 use Rattle.replay.proofs.Sheets.{name-passes}
-use Rattle.replay_machine.specs.Stored.{recordFor, Stored, StoredRecord}
+use Rattle.replay_machine.specs.Stored.{recordFor, StoredRecord}
 
 module _ (w : Workout) (p : TrainingProfile) (l : List CutCall) (t : Taken w) (ok : profileOk p ≡ true) (i : InMemory w l) where
   abbrev held : Held w

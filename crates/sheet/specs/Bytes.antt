@@ -1,4 +1,5 @@
 -- Document 01, 'Ride sheet': the bytes that a list of acts is written as.
+use mathlib.Core.Path.{_≡_}
 use mathlib.Core.Bool.{Bool, true, false, not, _&&_}
 use mathlib.Core.List.{List, [], _∷_, _++_, map, flatMap}
 use Prim.Native.Nat.{ℕ, _+_, _≤_, _<_}
@@ -11,7 +12,6 @@ use Rattle.power.specs.Power.{orZero}
 use Rattle.readings.specs.declared.Sample.{Sample}
 use Rattle.sheet.specs.declared.Act.{Act}
 use Rattle.sheet.specs.declared.Act.the-variants.{Profile, Read, Ride, Skip, Extend}
-use mathlib.Core.Path.{_≡_}
 
 -- "Kind 0 profile ..; 1 read ..; 2 ride ..; 3 skip; 4 extend."
 abbrev pub kindOf : Act → ℕ

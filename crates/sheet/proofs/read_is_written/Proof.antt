@@ -1,5 +1,5 @@
--- `read_is_written` states what Trip.antt proves.
-use Rattle.sheet.proofs.Trip.{read-is-written}
+-- `read_is_written` states what RoundTrip.antt proves.
+use Rattle.sheet.proofs.RoundTrip.{read-is-written}
 use Rattle.sheet.proofs.read_is_written.Statement.{statement}
 use Rattle.sheet.proofs.read_is_written.Tie as tie
 

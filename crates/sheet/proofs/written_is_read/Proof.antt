@@ -1,5 +1,5 @@
--- `written_is_read` states what Trip.antt proves.
-use Rattle.sheet.proofs.Trip.{written-is-read}
+-- `written_is_read` states what RoundTrip.antt proves.
+use Rattle.sheet.proofs.RoundTrip.{written-is-read}
 use Rattle.sheet.proofs.written_is_read.Statement.{statement}
 use Rattle.sheet.proofs.written_is_read.Tie as tie
 

@@ -1,21 +1,19 @@
 -- Ride sheets written and read again, and read and written again.
 use mathlib.Core.Path.{_≡_, refl, sym, ap, ap₂, _∙_, subst}
-use mathlib.Core.Bool.{Bool, true, false, cond, not, _&&_, _||_}
+use mathlib.Core.Bool.{Bool, true, false, cond, not, _&&_}
 use mathlib.Core.List.{List, [], _∷_, _++_, map, flatMap, append-assoc, append-nil}
 use Prim.Native.Nat.{ℕ, zero, suc, _+_, _-_, _*_, _/_, _%_, _^_, _≤_, _<_}
-use native.Mathlib.Nat.{le-of-suc-le-suc, not-suc-le-zero}
 use native.Mathlib.Omega.{arith}
 use lib.Dec.{ltb, leb, eqb}
-use lib.ListN.{length, take, drop, getD, replicate, length-append, length-map, length-take, length-drop, take-append-drop}
+use lib.ListN.{length, take, drop, getD, replicate, length-append, length-map}
 use lib.Seq.{take-all, take-take, take-at, drop-at, drop-drop, getD-drop, take-length, drop-cons}
-use borrow.Author.Tests.{eqb-true, eqb-false, eq-eqb, ne-eqb, leb-true, le-leb, ltb-true, ltb-false}
+use borrow.Author.Tests.{eqb-true, eqb-false, eq-eqb, ne-eqb, leb-true, le-leb, ltb-false}
 use Rattle.common.specs.Lists.{all}
 use Rattle.common.proofs.Tests.{and-left, and-right, and-both}
 use Rattle.le.specs.Le.{numberOf, bytesOf, part, Bytes}
 use Rattle.le.proofs.Laws.{length-bytes, number-bytes, bytes-number, number-lt, bytes-part, length-part, part-add}
 use Rattle.refusal.specs.declared.Answer.the-variants.{Accepted, Refused}
 use Rattle.refusal.specs.declared.Refusal.the-variants as refusals
-use Rattle.zones.specs.declared.TrainingProfile.{TrainingProfile}
 use Rattle.power.specs.declared.ReadingOption.{ReadingOption}
 use Rattle.power.specs.declared.ReadingOption.the-variants as readings
 use Rattle.power.specs.Power.{orZero, readingAt}
@@ -28,7 +26,7 @@ use Rattle.sheet.specs.declared.ActOption.the-variants as numbers
 use Rattle.sheet.specs.Sheet.{word2, word4, countIn, sizeOk, kindIn, placeOf, profileAt, flagsAt, sampleAt, actsAt, actIn, actsFrom, absentOk, sampleOk, unusedAt, actBy, actOk, faultFrom, acceptedAll, refusedAt, faultAnswer, checkOf}
 use Rattle.sheet.specs.Bytes.{kindOf, flagIf, flagsOf, valueOf, sheetBytes, isProfile, isCall, opens, ActFits, AllFit, IsSheet}
 use Rattle.sheet.specs.RoundTrip.{actsOf, WrittenIsRead, ReadIsWritten}
-use Rattle.sheet.proofs.Laws.{Sized, sized, accepted-sized, no-fault, fault-start}
+use Rattle.sheet.proofs.Laws.{Sized, sized, accepted-sized, no-fault}
 
 -- An act's value is eight bytes, and its reader looks at no others.
 
