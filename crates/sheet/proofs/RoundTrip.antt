@@ -43,36 +43,36 @@ module _ (s : List ℕ) (at : ℕ) where
   within : (j k : ℕ) → j + k ≤ 8 → numberOf (part s (at + j) k) ≡ numberOf (part value j k)
   within j k h = ap numberOf (sym (part-within j k 8 (drop at s) h ∙ ap (take k) (drop-drop j at s)))
 
-  first : (k : ℕ) → k ≤ 8 → numberOf (part s at k) ≡ numberOf (part value 0 k)
-  first k h = ap numberOf (sym (take-take k 8 (drop at s) h))
+  from-start : (k : ℕ) → k ≤ 8 → numberOf (part s at k) ≡ numberOf (part value 0 k)
+  from-start k h = ap numberOf (sym (take-take k 8 (drop at s) h))
 
   acts-value : actsAt s at ≡ actsAt value 0
   acts-value =
-      rw (first 2 (omega arith), first 4 (omega arith), within 2 2 (omega arith), within 4 2 (omega arith), within 4 4 (omega arith), within 6 2 (omega arith)) refl
+      rw (from-start 2 (omega arith), from-start 4 (omega arith), within 2 2 (omega arith), within 4 2 (omega arith), within 4 4 (omega arith), within 6 2 (omega arith)) refl
 
   by-value : (f : Bool) (kind : ℕ) → actBy f s at kind ≡ actBy f value 0 kind
   unfolding sampleOk
   by-value f kind =
-      rw (first 2 (omega arith), first 4 (omega arith), within 2 2 (omega arith), within 4 2 (omega arith), within 4 4 (omega arith), within 6 2 (omega arith)) refl
+      rw (from-start 2 (omega arith), from-start 4 (omega arith), within 2 2 (omega arith), within 4 2 (omega arith), within 4 4 (omega arith), within 6 2 (omega arith)) refl
 
 -- Written, then read.
 
 -- Readings and their flags, written and read: what is said of the three, and that question 17 lets them pass.
 pub record FlagsAgain (a b c : ReadingOption) (f : ℕ) : Type 0 where
-  pub power : readingAt (flagSet f 1) (orZero a) ≡ a
-  pub heart : readingAt (flagSet f 2) (orZero b) ≡ b
-  pub cadence : readingAt (flagSet f 4) (orZero c) ≡ c
+  pub power-is : readingAt (flagSet f 1) (orZero a) ≡ a
+  pub heart-is : readingAt (flagSet f 2) (orZero b) ≡ b
+  pub cadence-is : readingAt (flagSet f 4) (orZero c) ≡ c
   pub passes : (leb f 7 && (absentOk (flagSet f 1) (orZero a) && absentOk (flagSet f 2) (orZero b) && absentOk (flagSet f 4) (orZero c))) ≡ true
 
 flags-again : (a b c : ReadingOption) → FlagsAgain a b c (flagIf a 1 + flagIf b 2 + flagIf c 4)
-flags-again readings.None readings.None readings.None = record { power = refl; heart = refl; cadence = refl; passes = refl }
-flags-again readings.None readings.None (readings.Some c) = record { power = refl; heart = refl; cadence = refl; passes = refl }
-flags-again readings.None (readings.Some b) readings.None = record { power = refl; heart = refl; cadence = refl; passes = refl }
-flags-again readings.None (readings.Some b) (readings.Some c) = record { power = refl; heart = refl; cadence = refl; passes = refl }
-flags-again (readings.Some a) readings.None readings.None = record { power = refl; heart = refl; cadence = refl; passes = refl }
-flags-again (readings.Some a) readings.None (readings.Some c) = record { power = refl; heart = refl; cadence = refl; passes = refl }
-flags-again (readings.Some a) (readings.Some b) readings.None = record { power = refl; heart = refl; cadence = refl; passes = refl }
-flags-again (readings.Some a) (readings.Some b) (readings.Some c) = record { power = refl; heart = refl; cadence = refl; passes = refl }
+flags-again readings.None readings.None readings.None = record { power-is = refl; heart-is = refl; cadence-is = refl; passes = refl }
+flags-again readings.None readings.None (readings.Some c) = record { power-is = refl; heart-is = refl; cadence-is = refl; passes = refl }
+flags-again readings.None (readings.Some b) readings.None = record { power-is = refl; heart-is = refl; cadence-is = refl; passes = refl }
+flags-again readings.None (readings.Some b) (readings.Some c) = record { power-is = refl; heart-is = refl; cadence-is = refl; passes = refl }
+flags-again (readings.Some a) readings.None readings.None = record { power-is = refl; heart-is = refl; cadence-is = refl; passes = refl }
+flags-again (readings.Some a) readings.None (readings.Some c) = record { power-is = refl; heart-is = refl; cadence-is = refl; passes = refl }
+flags-again (readings.Some a) (readings.Some b) readings.None = record { power-is = refl; heart-is = refl; cadence-is = refl; passes = refl }
+flags-again (readings.Some a) (readings.Some b) (readings.Some c) = record { power-is = refl; heart-is = refl; cadence-is = refl; passes = refl }
 
 flag-most : (r : ReadingOption) (value : ℕ) → flagIf r value ≤ value
 flag-most readings.None value = omega arith
@@ -104,7 +104,7 @@ module _ (s : Sample) (h : ActFits (Read s)) where
         «heart_bpm» = readingAt (flagSet (flags-word i) 2) (heart-word i);
         «cadence_tenths» = readingAt (flagSet (flags-word i) 4) (cadence-word i);
       })
-      ∙ (λ i. record { «power_watts» = again .power i; «heart_bpm» = again .heart i; «cadence_tenths» = again .cadence i })
+      ∙ (λ i. record { «power_watts» = again .power-is i; «heart_bpm» = again .heart-is i; «cadence_tenths» = again .cadence-is i })
 
   read-passes : sampleOk (valueOf (Read s)) 0 ≡ true
   unfolding valueOf bytesOf sampleOk
@@ -237,48 +237,48 @@ opens-some [] o = let z : _≡_ {A = ℕ} 0 1 = cc in absurd (omega arith)
 opens-some (act ∷ acts) o = omega arith
 
 module _ (acts : List Act) (S : IsSheet acts) where
-  abbrev sheet : List ℕ
-  sheet = sheetBytes acts
+  abbrev made : List ℕ
+  made = sheetBytes acts
 
-  abbrev number : ℕ
-  number = length acts
+  abbrev total : ℕ
+  total = length acts
 
-  count-is : countIn sheet ≡ number
+  count-is : countIn made ≡ total
   unfolding sheetBytes
   count-is =
-      ap numberOf (take-at (bytesOf 2 number) (map kindOf acts ++ flatMap valueOf acts) 2 (length-bytes 2 number)) ∙ number-bytes 2 number (omega (arith, S .most))
+      ap numberOf (take-at (bytesOf 2 total) (map kindOf acts ++ flatMap valueOf acts) 2 (length-bytes 2 total)) ∙ number-bytes 2 total (omega (arith, S .most))
 
-  long : length sheet ≡ 2 + 9 * number
+  long : length made ≡ 2 + 9 * total
   unfolding sheetBytes
   long =
-      length-append (bytesOf 2 number) (map kindOf acts ++ flatMap valueOf acts)
-      ∙ omega (arith, length-bytes 2 number, length-append (map kindOf acts) (flatMap valueOf acts), length-map acts kindOf, values-length acts)
+      length-append (bytesOf 2 total) (map kindOf acts ++ flatMap valueOf acts)
+      ∙ omega (arith, length-bytes 2 total, length-append (map kindOf acts) (flatMap valueOf acts), length-map acts kindOf, values-length acts)
 
-  kinds-are : drop 2 sheet ≡ map kindOf acts ++ flatMap valueOf acts
+  kinds-are : drop 2 made ≡ map kindOf acts ++ flatMap valueOf acts
   unfolding sheetBytes
-  kinds-are = drop-at (bytesOf 2 number) (map kindOf acts ++ flatMap valueOf acts) 2 (length-bytes 2 number)
+  kinds-are = drop-at (bytesOf 2 total) (map kindOf acts ++ flatMap valueOf acts) 2 (length-bytes 2 total)
 
-  values-are : drop (placeOf number 0) sheet ≡ flatMap valueOf acts ++ []
+  values-are : drop (placeOf total 0) made ≡ flatMap valueOf acts ++ []
   values-are =
-      let z : placeOf number 0 ≡ 2 + number = omega arith in
-      ap (λ (k : ℕ). drop k sheet) z ∙ sym (drop-drop number 2 sheet) ∙ ap (drop number) kinds-are
-      ∙ drop-at (map kindOf acts) (flatMap valueOf acts) number (length-map acts kindOf) ∙ sym (append-nil (flatMap valueOf acts))
+      let z : placeOf total 0 ≡ 2 + total = omega arith in
+      ap (λ (k : ℕ). drop k made) z ∙ sym (drop-drop total 2 made) ∙ ap (drop total) kinds-are
+      ∙ drop-at (map kindOf acts) (flatMap valueOf acts) total (length-map acts kindOf) ∙ sym (append-nil (flatMap valueOf acts))
 
-  whole : Again sheet number 0 acts
-  whole = opens-again sheet number acts (flatMap valueOf acts) [] kinds-are values-are (S .opened) (S .fits)
+  whole : Again made total 0 acts
+  whole = opens-again made total acts (flatMap valueOf acts) [] kinds-are values-are (S .opened) (S .fits)
 
-  size-ok : sizeOk sheet ≡ true
+  size-ok : sizeOk made ≡ true
   unfolding sizeOk
   size-ok =
-      and-both (and-both (le-leb 1 (countIn sheet) (omega (arith, count-is, opens-some acts (S .opened)))) (le-leb (countIn sheet) 4096 (omega (arith, count-is, S .most))))
-      (eq-eqb (length sheet) (2 + 9 * countIn sheet) (omega (arith, count-is, long)))
+      and-both (and-both (le-leb 1 (countIn made) (omega (arith, count-is, opens-some acts (S .opened)))) (le-leb (countIn made) 4096 (omega (arith, count-is, S .most))))
+      (eq-eqb (length made) (2 + 9 * countIn made) (omega (arith, count-is, long)))
 
-  accepted : checkOf sheet ≡ acceptedAll
+  accepted : checkOf made ≡ acceptedAll
   accepted =
-      sym (no-fault sheet number (faultFrom sheet number 0 number) size-ok (sym count-is) refl (omega (arith, whole .passes)))
+      sym (no-fault made total (faultFrom made total 0 total) size-ok (sym count-is) refl (omega (arith, whole .passes)))
 
-  same : actsOf sheet ≡ acts
-  same = ap (λ (k : ℕ). actsFrom sheet k 0 k) count-is ∙ whole .same
+  same : actsOf made ≡ acts
+  same = ap (λ (k : ℕ). actsFrom made k 0 k) count-is ∙ whole .same
 
 pub written-is-read : WrittenIsRead
 written-is-read = record { accepted = accepted; same = same }
@@ -313,7 +313,7 @@ pub record Back (first : Bool) (kind : ℕ) (value : List ℕ) (act : Act) : Typ
   pub kind-is : kindOf act ≡ kind
   pub value-is : valueOf act ≡ value
   pub profile-is : isProfile act ≡ first
-  pub fits : ActFits act
+  pub act-fits : ActFits act
 
 module _ (v : List ℕ) (b : Bytes v) (e : length v ≡ 8) where
   number-back : (j k : ℕ) → j + k ≤ 8 → bytesOf k (numberOf (part v j k)) ≡ part v j k
@@ -347,39 +347,39 @@ module _ (v : List ℕ) (b : Bytes v) (e : length v ≡ 8) where
       ∙ halves
 
   module _ (h : sampleOk v 0 ≡ true) where
-    abbrev flags : ℕ
-    flags = flagsAt v 0
+    abbrev flag-word : ℕ
+    flag-word = flagsAt v 0
 
     abbrev power-ok : Bool
-    power-ok = absentOk (flagSet flags 1) (word2 v 0)
+    power-ok = absentOk (flagSet flag-word 1) (word2 v 0)
 
     abbrev heart-ok : Bool
-    heart-ok = absentOk (flagSet flags 2) (word2 v 2)
+    heart-ok = absentOk (flagSet flag-word 2) (word2 v 2)
 
     abbrev cadence-ok : Bool
-    cadence-ok = absentOk (flagSet flags 4) (word2 v 4)
+    cadence-ok = absentOk (flagSet flag-word 4) (word2 v 4)
 
-    few : flags ≤ 7
+    few : flag-word ≤ 7
     unfolding sampleOk
-    few = leb-true flags 7 (and-left (leb flags 7) (power-ok && heart-ok && cadence-ok) h)
+    few = leb-true flag-word 7 (and-left (leb flag-word 7) (power-ok && heart-ok && cadence-ok) h)
 
     absent : (power-ok && heart-ok && cadence-ok) ≡ true
     unfolding sampleOk
-    absent = and-right (leb flags 7) (power-ok && heart-ok && cadence-ok) h
+    absent = and-right (leb flag-word 7) (power-ok && heart-ok && cadence-ok) h
 
-    flags-back : flagsOf (sampleAt v 0) ≡ flags
+    flags-back : flagsOf (sampleAt v 0) ≡ flag-word
     flags-back =
-        (λ i. flag-value (flagSet flags 1) (word2 v 0) 1 i + flag-value (flagSet flags 2) (word2 v 2) 2 i + flag-value (flagSet flags 4) (word2 v 4) 4 i)
-        ∙ (λ i. bit flags 1 i + bit flags 2 i + bit flags 4 i)
+        (λ i. flag-value (flagSet flag-word 1) (word2 v 0) 1 i + flag-value (flagSet flag-word 2) (word2 v 2) 2 i + flag-value (flagSet flag-word 4) (word2 v 4) 4 i)
+        ∙ (λ i. bit flag-word 1 i + bit flag-word 2 i + bit flag-word 4 i)
         ∙ omega (arith, few)
 
     read-back : valueOf (Read (sampleAt v 0)) ≡ v
     unfolding valueOf
     read-back =
         (λ i.
-        bytesOf 2 (reading-back (flagSet flags 1) (word2 v 0) (and-left power-ok heart-ok (and-left (power-ok && heart-ok) cadence-ok absent)) i)
-        ++ (bytesOf 2 (reading-back (flagSet flags 2) (word2 v 2) (and-right power-ok heart-ok (and-left (power-ok && heart-ok) cadence-ok absent)) i)
-        ++ (bytesOf 2 (reading-back (flagSet flags 4) (word2 v 4) (and-right (power-ok && heart-ok) cadence-ok absent) i) ++ bytesOf 2 (flags-back i))))
+        bytesOf 2 (reading-back (flagSet flag-word 1) (word2 v 0) (and-left power-ok heart-ok (and-left (power-ok && heart-ok) cadence-ok absent)) i)
+        ++ (bytesOf 2 (reading-back (flagSet flag-word 2) (word2 v 2) (and-right power-ok heart-ok (and-left (power-ok && heart-ok) cadence-ok absent)) i)
+        ++ (bytesOf 2 (reading-back (flagSet flag-word 4) (word2 v 4) (and-right (power-ok && heart-ok) cadence-ok absent) i) ++ bytesOf 2 (flags-back i))))
         ∙ (λ i. number-back 0 2 (omega arith) i ++ (number-back 2 2 (omega arith) i ++ (number-back 4 2 (omega arith) i ++ number-back 6 2 (omega arith) i)))
         ∙ ap (λ (x : List ℕ). part v 0 2 ++ (part v 2 2 ++ x)) (sym (part-add 2 2 v 4))
         ∙ sym (append-assoc (part v 0 2) (part v 2 2) (part v 4 4)) ∙ ap (λ (x : List ℕ). x ++ part v 4 4) (sym (part-add 2 2 v 0)) ∙ halves
@@ -394,34 +394,34 @@ module _ (v : List ℕ) (b : Bytes v) (e : length v ≡ 8) where
         kind-is = refl;
         value-is = profile-back (and-right f (unusedAt v 4) h);
         profile-is = sym (and-left f (unusedAt v 4) h);
-        fits = (number-small 0 2 (omega arith), number-small 2 2 (omega arith));
+        act-fits = (number-small 0 2 (omega arith), number-small 2 2 (omega arith));
       }
   value-back f (suc zero) h =
       record {
         kind-is = refl;
         value-is = read-back (and-right (not f) (sampleOk v 0) h);
         profile-is = not-back f (and-left (not f) (sampleOk v 0) h);
-        fits = (
+        act-fits = (
           small-back (flagSet (flagsAt v 0) 1) (word2 v 0) 65536 (number-small 0 2 (omega arith)),
           small-back (flagSet (flagsAt v 0) 2) (word2 v 2) 65536 (number-small 2 2 (omega arith)),
           small-back (flagSet (flagsAt v 0) 4) (word2 v 4) 65536 (number-small 4 2 (omega arith)),
         );
       }
   value-back f (suc (suc zero)) h =
-      record { kind-is = refl; value-is = ride-back; profile-is = not-back f h; fits = (number-small 0 4 (omega arith), number-small 4 4 (omega arith)) }
+      record { kind-is = refl; value-is = ride-back; profile-is = not-back f h; act-fits = (number-small 0 4 (omega arith), number-small 4 4 (omega arith)) }
   value-back f (suc (suc (suc zero))) h =
       record {
         kind-is = refl;
         value-is = unfold valueOf in none-back (and-right (not f) (unusedAt v 0 && unusedAt v 4) h);
         profile-is = not-back f (and-left (not f) (unusedAt v 0 && unusedAt v 4) h);
-        fits = tt;
+        act-fits = tt;
       }
   value-back f (suc (suc (suc (suc zero)))) h =
       record {
         kind-is = refl;
         value-is = unfold valueOf in none-back (and-right (not f) (unusedAt v 0 && unusedAt v 4) h);
         profile-is = not-back f (and-left (not f) (unusedAt v 0 && unusedAt v 4) h);
-        fits = tt;
+        act-fits = tt;
       }
   value-back f (suc (suc (suc (suc (suc kind))))) h = let z : _≡_ {A = ℕ} 0 1 = cc in absurd (omega arith)
 
@@ -430,7 +430,7 @@ pub record RowBack (s : List ℕ) (n i k : ℕ) (acts : List Act) : Type 0 where
   pub count : length acts ≡ k
   pub kinds : map kindOf acts ≡ part s (2 + i) k
   pub values : flatMap valueOf acts ≡ part s (placeOf n i) (8 * k)
-  pub fits : AllFit acts
+  pub all-fit : AllFit acts
 
 module _ (s : List ℕ) (b : Bytes s) (n : ℕ) (long : length s ≡ 2 + 9 * n) where
   act-back : (i : ℕ) → i < n → actOk s n i ≡ true → Back (eqb i 0) (kindIn s i) (part s (placeOf n i) 8) (actIn s n i)
@@ -462,7 +462,7 @@ module _ (s : List ℕ) (b : Bytes s) (n : ℕ) (long : length s ≡ 2 + 9 * n) 
 
   row-back : (i k : ℕ) → i + k ≤ n → i + k ≤ faultFrom s n i k → RowBack s n i k (actsFrom s n i k)
   unfolding actsFrom flatMap
-  row-back i zero h g = record { count = refl; kinds = refl; values = refl; fits = tt }
+  row-back i zero h g = record { count = refl; kinds = refl; values = refl; all-fit = tt }
   row-back i (suc k) h g =
       let here : (actOk s n i ≡ true) × (i + 1 + k ≤ faultFrom s n (i + 1) k) = no-fault-here i k g in
       let A : Back (eqb i 0) (kindIn s i) (part s (placeOf n i) 8) (actIn s n i) = act-back i (omega arith) (here .0) in
@@ -471,7 +471,7 @@ module _ (s : List ℕ) (b : Bytes s) (n : ℕ) (long : length s ≡ 2 + 9 * n) 
         count = omega (arith, R .count);
         kinds = ap₂ (λ (x : ℕ) (xs : List ℕ). x ∷ xs) (A .kind-is) (R .kinds) ∙ sym (kind-next i k (omega arith));
         values = ap₂ (λ (x y : List ℕ). x ++ y) (A .value-is) (R .values) ∙ sym (value-next i k);
-        fits = (A .fits, R .fits);
+        all-fit = (A .act-fits, R .all-fit);
       }
 
   -- an act that isn't the first is a call
@@ -490,46 +490,46 @@ module _ (s : List ℕ) (b : Bytes s) (n : ℕ) (long : length s ≡ 2 + 9 * n) 
       and-both (act-back 0 (omega arith) (here .0) .profile-is) (calls-back 0 k (omega arith) (here .1))
 
 module _ (s : List ℕ) (b : Bytes s) (e : checkOf s .answer ≡ Accepted) where
-  abbrev n : ℕ
-  n = countIn s
+  abbrev amount : ℕ
+  amount = countIn s
 
   S : Sized s
   S = sized s (accepted-sized s e)
 
-  none-at-fault : n ≤ faultFrom s n 0 n
+  none-at-fault : amount ≤ faultFrom s amount 0 amount
   unfolding checkOf
-  none-at-fault = by (ltb (faultFrom s n 0 n) n) refl (ap (λ (t : Bool). cond t (faultAnswer (faultFrom s n 0 n) n) (refusedAt refusals.SheetLength numbers.None) .answer) (sym (accepted-sized s e)) ∙ e)
+  none-at-fault = by (ltb (faultFrom s amount 0 amount) amount) refl (ap (λ (t : Bool). cond t (faultAnswer (faultFrom s amount 0 amount) amount) (refusedAt refusals.SheetLength numbers.None) .answer) (sym (accepted-sized s e)) ∙ e)
     where
-      by : (t : Bool) → ltb (faultFrom s n 0 n) n ≡ t → faultAnswer (faultFrom s n 0 n) n .answer ≡ Accepted → n ≤ faultFrom s n 0 n
+      by : (t : Bool) → ltb (faultFrom s amount 0 amount) amount ≡ t → faultAnswer (faultFrom s amount 0 amount) amount .answer ≡ Accepted → amount ≤ faultFrom s amount 0 amount
       by true f g =
-          let z : Refused refusals.Act ≡ Accepted = sym (ap (λ (t : Bool). cond {A = ActAnswer} t (refusedAt refusals.Act (numbers.Some (faultFrom s n 0 n))) acceptedAll .answer) f) ∙ g in
+          let z : Refused refusals.Act ≡ Accepted = sym (ap (λ (t : Bool). cond {A = ActAnswer} t (refusedAt refusals.Act (numbers.Some (faultFrom s amount 0 amount))) acceptedAll .answer) f) ∙ g in
           let y : _≡_ {A = ℕ} 0 1 = cc in absurd (omega arith)
-      by false f g = ltb-false (faultFrom s n 0 n) n f
+      by false f g = ltb-false (faultFrom s amount 0 amount) amount f
 
-  rows : RowBack s n 0 n (actsOf s)
-  rows = row-back s b n (S .long) 0 n (omega arith) (omega (arith, none-at-fault))
+  rows : RowBack s amount 0 amount (actsOf s)
+  rows = row-back s b amount (S .long) 0 amount (omega arith) (omega (arith, none-at-fault))
 
   fits-back : IsSheet (actsOf s)
   fits-back =
       record {
         most = omega (arith, rows .count, S .most);
-        opened = opens-back s b n (S .long) n (omega (arith, S .some)) (omega arith) none-at-fault;
-        fits = rows .fits;
+        opened = opens-back s b amount (S .long) amount (omega (arith, S .some)) (omega arith) none-at-fault;
+        fits = rows .all-fit;
       }
 
   count-back : bytesOf 2 (length (actsOf s)) ≡ part s 0 2
   count-back =
       ap (bytesOf 2) (rows .count)
-      ∙ ap (λ (k : ℕ). bytesOf k n) (sym (length-part s 0 2 (omega (arith, S .long)))) ∙ bytes-number (part s 0 2) (bytes-part s 0 2 b)
+      ∙ ap (λ (k : ℕ). bytesOf k amount) (sym (length-part s 0 2 (omega (arith, S .long)))) ∙ bytes-number (part s 0 2) (bytes-part s 0 2 b)
 
   sheet-back : sheetBytes (actsOf s) ≡ s
   unfolding sheetBytes
   sheet-back =
-      let z : placeOf n 0 ≡ 2 + n = omega arith in
-      let y : 2 + (n + 8 * n) ≡ length s = omega (arith, S .long) in
-      ap₂ (λ (x y : List ℕ). x ++ y) count-back (ap₂ (λ (x y : List ℕ). x ++ y) (rows .kinds) (rows .values ∙ ap (λ (k : ℕ). part s k (8 * n)) z))
-      ∙ ap (λ (x : List ℕ). part s 0 2 ++ x) (sym (part-add n (8 * n) s 2))
-      ∙ sym (part-add 2 (n + 8 * n) s 0) ∙ ap (λ (k : ℕ). take k s) y ∙ take-length s
+      let z : placeOf amount 0 ≡ 2 + amount = omega arith in
+      let y : 2 + (amount + 8 * amount) ≡ length s = omega (arith, S .long) in
+      ap₂ (λ (x y : List ℕ). x ++ y) count-back (ap₂ (λ (x y : List ℕ). x ++ y) (rows .kinds) (rows .values ∙ ap (λ (k : ℕ). part s k (8 * amount)) z))
+      ∙ ap (λ (x : List ℕ). part s 0 2 ++ x) (sym (part-add amount (8 * amount) s 2))
+      ∙ sym (part-add 2 (amount + 8 * amount) s 0) ∙ ap (λ (k : ℕ). take k s) y ∙ take-length s
 
 pub read-is-written : ReadIsWritten
-read-is-written = record { fits = fits-back; same = sheet-back }
+read-is-written = record { is-sheet = fits-back; same = sheet-back }

@@ -20,7 +20,7 @@ pub record WrittenIsRead : Type 0 where
   pub same : (acts : List Act) → IsSheet acts → actsOf (sheetBytes acts) ≡ acts
 
 pub record ReadIsWritten : Type 0 where
-  pub fits : (s : List ℕ) → Bytes s → checkOf s .answer ≡ Accepted → IsSheet (actsOf s)
+  pub is-sheet : (s : List ℕ) → Bytes s → checkOf s .answer ≡ Accepted → IsSheet (actsOf s)
   pub same : (s : List ℕ) → Bytes s → checkOf s .answer ≡ Accepted → sheetBytes (actsOf s) ≡ s
 
 -- A sheet with an act of each kind: FTP 200 W and LTHR 160, 150 W and a cadence of 90.0 without a heart rate, 10,000 ms with 70,000 mm.
