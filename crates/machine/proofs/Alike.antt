@@ -52,7 +52,7 @@ use Rattle.measure.specs.Measure.{Meter, meter, minuteOf, lowBy, rampTarget, ra
 use Rattle.step_end.specs.StepEnd as player
 use Rattle.step_end.specs.StepEnd.{Outcome, dueAt, countdownsTo, countdownsOf, orElse, arrived, afterEvent, nextTo, nextOf}
 use Rattle.rounds.specs.Rounds.{Riding, riding, advanced, complianceNow}
-use Rattle.machine.specs.Machine.{Tallies, Sums, Machine, stepOf, stepAt, newest, isTest, testIn, endOf, twenty, rampOf, ramp, result, resultIn, ftpAfter, ftpEvents, nextEvent, ended, turns, readingFor, Judged, isUnder, isIn, isOver, isNothing, between, judge, judgeIf, judgedBy, judgedIn, orAbsent, lastPower}
+use Rattle.machine.specs.Machine.{Tallies, Sums, Machine, stepOf, stepAt, newest, isTest, testIn, endOf, twenty, rampOf, ramp, result, resultIn, ftpAfter, ftpEvents, nextEvent, ended, turns, readingFor, Judged, isUnder, isIn, isOver, isNothing, between, judge, judgeIf, judgedBy, judgedIn, zeroIfAbsent, lastPower}
 use Rattle.machine.specs.Runs.{Totals}
 use Rattle.machine.specs.ThirdDemand.{isRamp, isCompared, compared}
 use Rattle.machine.proofs.Seconds.{MinuteIs, capped}
@@ -259,7 +259,7 @@ test-is Recovery test = refl
 test-is Cooldown test = refl
 test-is intensities.Test test = refl
 
-or-same : (r : ReadingOption) → orZero r ≡ orAbsent r
+or-same : (r : ReadingOption) → orZero r ≡ zeroIfAbsent r
 or-same None = refl
 or-same (Some power) = refl
 

@@ -336,12 +336,12 @@ tally isOver t = record { targeted = t .targeted + 1; inside = t .inside; under 
 tally isNothing t = t
 
 -- "the last power (absent 0)"
-abbrev pub orAbsent : ReadingOption → ℕ
-orAbsent None = 0
-orAbsent (Some power) = power
+abbrev pub zeroIfAbsent : ReadingOption → ℕ
+zeroIfAbsent None = 0
+zeroIfAbsent (Some power) = power
 
 abbrev pub lastPower : List Sample → ℕ
-lastPower samples = orAbsent (newest samples .«power_watts»)
+lastPower samples = zeroIfAbsent (newest samples .«power_watts»)
 
 -- "adds 1 to the rest and at 1,000 clears it and appends that power"
 unfoldable pub rested : Bool → ℕ → Sums → Sums
