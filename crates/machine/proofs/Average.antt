@@ -14,7 +14,7 @@ use Rattle.readings.specs.declared.Sample.{Sample}
 use Rattle.power.specs.declared.Power3s.{Power3s}
 use Rattle.power.specs.Power.{orZero, isSome, countOf, readingAt, window, meanBy, average, averageOf, added}
 use Rattle.machine.specs.Machine.{ifPresent, present, averageWatts, mean}
-use Rattle.machine.proofs.Seconds.{backwards, stored}
+use Rattle.machine.proofs.Seconds.{backwards, stored, sum-append}
 
 abbrev pub powerOf : Sample → ReadingOption
 powerOf sample = sample .«power_watts»
@@ -89,11 +89,6 @@ take-front {A} (suc k) (x ∷ xs) ys = ap (λ (l : List A). x ∷ l) (take-front
 
 -- The player's sums over all readings, absent ones as 0, are the machine's over those present.
 
-joined-sum : (xs ys : List ℕ) → sum (xs ++ ys) ≡ sum xs + sum ys
-unfolding sum
-joined-sum [] ys = omega arith
-joined-sum (x ∷ xs) ys = omega (arith, joined-sum xs ys)
-
 one-sum : (r : ReadingOption) → sum (ifPresent r) ≡ orZero r
 unfolding sum
 one-sum None = refl
@@ -106,7 +101,7 @@ one-length (Some watts) = refl
 present-sum : (samples : List Sample) → sum (map orZero (map powerOf samples)) ≡ sum (present samples)
 unfolding sum present
 present-sum [] = refl
-present-sum (x ∷ xs) = omega (arith, joined-sum (ifPresent (powerOf x)) (present xs), one-sum (powerOf x), present-sum xs)
+present-sum (x ∷ xs) = omega (arith, sum-append (ifPresent (powerOf x)) (present xs), one-sum (powerOf x), present-sum xs)
 
 present-length : (samples : List Sample) → sum (map countOf (map powerOf samples)) ≡ length (present samples)
 unfolding sum present

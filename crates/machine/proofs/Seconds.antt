@@ -31,7 +31,7 @@ pub record MinuteIs (n : ℕ) (m : Minute) (seconds : List ℕ) : Type 0 where
 
 -- Sums.
 
-sum-append : (xs ys : List ℕ) → sum (xs ++ ys) ≡ sum xs + sum ys
+pub sum-append : (xs ys : List ℕ) → sum (xs ++ ys) ≡ sum xs + sum ys
 unfolding sum
 sum-append [] ys = omega arith
 sum-append (x ∷ xs) ys = omega (arith, sum-append xs ys)
