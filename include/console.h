@@ -22,7 +22,8 @@ extern "C" {
 /* The act of an answer that names none. Acts, the entries of a sheet, are counted from 0, so 0 is an act. */
 #define REPLAY_NO_ACT UINT32_C(4294967295)
 
-/* The numbers of document 01's questions: which one refused. In brackets, whether the refusal names an act. */
+/* The numbers of the questions of document 01 and of the change requests: which one refused. In brackets, whether the refusal
+ * names an act. */
 enum replay_refusal {
     /* Nothing was refused, and the record is written. */
     REPLAY_WRITTEN = 0,
@@ -65,7 +66,9 @@ enum replay_refusal {
     /* Fewer than REPLAY_RECORD_LENGTH bytes lent for the record (no act). */
     REPLAY_OUTPUT = 19,
     /* A player whose fields contradict each other: not reached by this call, which makes its own. */
-    REPLAY_STANDING = 20
+    REPLAY_STANDING = 20,
+    /* A bike number above 3, of the call that shares a supply among four bikes: not reached by this call. */
+    REPLAY_BIKE_NUMBER = 29
 };
 
 /* The answer: a number of `replay_refusal`, and the act at fault or REPLAY_NO_ACT. */

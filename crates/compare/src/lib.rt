@@ -347,10 +347,7 @@ fn name_word(name: Name, place: u32) -> u32
 pub fn refused_number(answer: Answer) -> u32
     ensures { λ r. ⌜ r ≡ answerNumber answer ⌝ }
 {
-    match answer {
-        Answer::Accepted => 0,
-        Answer::Refused(refusal) => refusal.number(),
-    }
+    answer.number()
 }
 
 pub fn played_word(option: PlayedOption) -> u32

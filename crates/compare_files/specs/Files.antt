@@ -17,7 +17,7 @@ use Rattle.model.specs.declared.Block.{Block}
 use Rattle.model.specs.declared.Step.{Step}
 use Rattle.model.specs.declared.Workout.{Workout}
 use Rattle.names.specs.declared.Name.{Name}
-use Rattle.refusal.specs.Number.{numberOf, answerNumber}
+use Rattle.refusal.specs.Number.{questionNumber, answerNumber}
 use Rattle.steps.specs.Bytes.{intensityKind, lengthKind, lengthValue, targetKind, firstValue, secondValue, thirdValue}
 
 -- a name: its length, then its 20 bytes, four to a word
@@ -75,7 +75,7 @@ filled word answer n = map word (range 0 n) ++ drop n answer
 -- the length written, in 32 bits, or the number of the question that refuses
 abbrev pub writtenNumber : Encoded → ℕ
 writtenNumber (encoded.Written size) = size % 4294967296
-writtenNumber (encoded.Refused refusal) = numberOf refusal
+writtenNumber (encoded.Refused refusal) = questionNumber refusal
 
 -- what was read, written over 484 bytes of 165: the answer, then the bytes, four to a word
 abbrev pub lent : List ℕ

@@ -4,8 +4,7 @@
 ghost use mathlib.Core.Path.{_≡_};
 ghost use lib.ListN.{length};
 ghost use Rattle.replay.specs.Replay.{replayAnswer, replayOutput};
-ghost use Rattle.console.specs.Console.{answerNumber, actNumber, replayedOf, isYes};
-use refusal::Answer;
+ghost use Rattle.console.specs.Console.{actNumber, replayedOf, isYes};
 use sheet::ActAnswer;
 use sheet::ActOption;
 
@@ -17,15 +16,6 @@ pub const NO_ACT: u32 = 4294967295;
 pub struct Replayed {
     pub refusal: u32,
     pub act: u32,
-}
-
-fn answer_number(answer: Answer) -> u32
-    ensures { λ r. ⌜ r ≡ answerNumber answer ⌝ }
-{
-    match answer {
-        Answer::Accepted => 0,
-        Answer::Refused(refusal) => refusal.number(),
-    }
 }
 
 fn act_number(act: ActOption) -> u32
@@ -43,7 +33,7 @@ fn in_numbers(outcome: ActAnswer) -> Replayed
     let answer = outcome.answer;
     let act = outcome.act;
     Replayed {
-        refusal: answer_number(answer),
+        refusal: answer.number(),
         act: act_number(act),
     }
 }

@@ -9,7 +9,7 @@ use Rattle.checksum.specs.V42.{checkOf}
 use Rattle.refusal.specs.declared.Answer.{Answer}
 use Rattle.refusal.specs.declared.Answer.the-variants.{Accepted, Refused}
 use Rattle.refusal.specs.declared.Refusal.the-variants as refusals
-use Rattle.refusal.specs.Number.{ask, numberOf}
+use Rattle.refusal.specs.Number.{ask, questionNumber}
 use Rattle.model.specs.declared.Block.{Block}
 use Rattle.model.specs.declared.Test.{Test}
 use Rattle.model.specs.declared.Test.the-variants as tests
@@ -47,7 +47,7 @@ fileBytes w = bodyBytes w ++ bytesOf 4 (checkOf (bodyBytes w))
 -- none, beside the length that the case has.
 abbrev pub encodedNumber : Encoded → ℕ
 encodedNumber (encoded.Written size) = 0
-encodedNumber (encoded.Refused refusal) = numberOf refusal
+encodedNumber (encoded.Refused refusal) = questionNumber refusal
 
 -- "The writer asks 5 .., 6 to 9, then 19": its answer alone.
 abbrev pub thenAsk : Answer → Answer → Answer

@@ -10,7 +10,7 @@ use borrow.Author.Tests.{leb-true, leb-false}
 use Rattle.common.proofs.Tests.{and-left}
 use Rattle.le.specs.Le.{Bytes, numberOf, part}
 use Rattle.le.proofs.Laws.{bytes-part, number-lt, length-part}
-use Rattle.refusal.specs.Number.{answerNumber}
+use Rattle.refusal.specs.Number.{questionNumber, answerNumber}
 use Rattle.names.specs.Names.{nameOk}
 use Rattle.codec.proofs.Names.{name-len}
 use Rattle.model.specs.declared.Test.{Test}
@@ -35,6 +35,7 @@ millis-fits ms e = omega (arith, e)
 
 -- a refused record is none that is read
 refused-not-read : (r : Record) → noRecord ≡ readAs r → ⊥
+unfolding questionNumber
 refused-not-read r e = let z : _≡_ {A = ℕ} 18 0 = ap (λ (x : RecordRead). answerNumber (x .answer)) e in absurd (omega arith)
 
 module _ (r : Record) (typed : RecordTyped r) where

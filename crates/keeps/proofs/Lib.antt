@@ -3,3 +3,4 @@ pub mod Rides
 pub mod Calls
 pub mod Fresh
 pub mod Few
+pub mod Fits

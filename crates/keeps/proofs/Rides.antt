@@ -54,7 +54,7 @@ measured-energy tests.Twenty w ms low m h e = energy-more (m .measured .«test_m
 measured-energy tests.Ramp w ms low m h e = ramp-energy w ms low m e
 
 -- a step's end leaves the readings
-closed-readings : (w : Workout) (p : TrainingProfile) (c : Core) → closed w p c .core .readings ≡ c .readings
+pub closed-readings : (w : Workout) (p : TrainingProfile) (c : Core) → closed w p c .core .readings ≡ c .readings
 unfolding closed nextOf arrived
 closed-readings w p c = at (isOver p c)
   where

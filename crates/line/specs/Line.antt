@@ -11,7 +11,7 @@ use Rattle.le.specs.Le.{written}
 use Rattle.refusal.specs.declared.Refusal.{Refusal}
 use Rattle.refusal.specs.declared.Answer.{Answer}
 use Rattle.refusal.specs.declared.Answer.the-variants.{Accepted, Refused}
-use Rattle.refusal.specs.Number.{numberOf}
+use Rattle.refusal.specs.Number.{questionNumber}
 use Rattle.power.specs.declared.ReadingOption.{ReadingOption}
 use Rattle.power.specs.declared.ReadingOption.the-variants as reading
 use Rattle.state.specs.declared.Summary.{Summary}
@@ -128,7 +128,7 @@ actText None = []
 actText (Some act) = fieldOf actWord act
 
 unfoldable pub refusalText : Refusal → ActOption → List ℕ
-refusalText refusal act = fieldOf refusedWord (numberOf refusal) ++ actText act
+refusalText refusal act = fieldOf refusedWord (questionNumber refusal) ++ actText act
 
 abbrev pub outcomeBy : Answer → ActOption → Summary → List ℕ
 outcomeBy Accepted act s = summaryText s

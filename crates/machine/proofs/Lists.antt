@@ -89,6 +89,15 @@ call-fits w p (skip kinds values) es s h f =
     unless-fits (skipAsks w kinds values s) s (skipped w (stepAt w (s .machine .step .position)) (s .machine)) f (fits-by (s .machine) (skipped w (stepAt w (s .machine .step .position)) (s .machine)) (skip-readings w (stepAt w (s .machine .step .position)) (s .machine)) f)
 call-fits w p extend es s h f = unless-fits (extendAsks w s) s (withExtra (extraNext w s) (s .machine)) f (fits-by (s .machine) (withExtra (extraNext w s) (s .machine)) (extra-readings (extraNext w s) (s .machine)) f)
 
+module _ (p : TrainingProfile) where
+  -- every call keeps standing
+  pub call-keeps : (c : Call) (q : Player) → PlayerFits q → standingOf q ≡ true → standingOf (called p c q .player) ≡ true
+  unfolding called
+  call-keeps (read sample) q f st = keeps-standing .read q sample st
+  call-keeps (ride ms mm kinds values) q f st = keeps-standing .ride q ms mm p kinds values f st
+  call-keeps (skip kinds values) q f st = keeps-standing .skip q kinds values f st
+  call-keeps extend q f st = keeps-standing .extend q st
+
 -- Runs of joined lists.
 
 module _ (p : TrainingProfile) where
@@ -132,13 +141,6 @@ module _ (w : Workout) (p : TrainingProfile) (T : Held w) (ok : profileOk p ≡ 
 
   -- One call.
 
-  keeps : (c : Call) (q : Player) → PlayerFits q → standingOf q ≡ true → standingOf (called p c q .player) ≡ true
-  unfolding called
-  keeps (read sample) q f st = keeps-standing .read q sample st
-  keeps (ride ms mm kinds values) q f st = keeps-standing .ride q ms mm p kinds values f st
-  keeps (skip kinds values) q f st = keeps-standing .skip q kinds values f st
-  keeps extend q f st = keeps-standing .extend q st
-
   none-yet : (k : List Event) (q : Player) (s : Progress) → After k q s → After (k ++ compared []) q s
   unfolding compared
   none-yet k q s A = subst (λ (l : List Event). After l q s) (sym (append-nil k)) A
@@ -176,7 +178,7 @@ module _ (w : Workout) (p : TrainingProfile) (T : Held w) (ok : profileOk p ≡ 
       let s' : Progress = afterPiece w p (pieceAsks w kinds values s e) e s in
       let G : Goes w k (called p c q) (pieceAsks w kinds values s e) s' = unfold called in piece-is w p T ok k q s (A .same) (A .stands) kinds values e in
       let one : RunIs k (run p (c ∷ []) q) (pieceAsks w kinds values s e ∷ []) s' =
-      one-call k c q (pieceAsks w kinds values s e) s' G (keeps c q (player-fits A) (A .stands)) (piece-fits w p (pieceAsks w kinds values s e) e s (A .fits)) in
+      one-call k c q (pieceAsks w kinds values s e) s' G (call-keeps p c q (player-fits A) (A .stands)) (piece-fits w p (pieceAsks w kinds values s e) e s (A .fits)) in
       joined k (c ∷ []) (map (pieceCall kinds values) es) q (pieceAsks w kinds values s e ∷ []) (piecesAsk w p kinds values es s') s' (afterPieces w p kinds values es s') one
       (pieces-are kinds values es (k ++ compared (run p (c ∷ []) q .events)) (run p (c ∷ []) q .player) s' (one .after))
 
@@ -185,14 +187,14 @@ module _ (w : Workout) (p : TrainingProfile) (T : Held w) (ok : profileOk p ≡ 
   unfolding callsOf callAsks
   call-is (read sample) es h k q s A =
       one-call k (read sample) q (readAsks sample) (afterCall w p (read sample) es s) (read-is w p T ok k q s (A .same) (A .stands) sample es)
-      (keeps (read sample) q (player-fits A) (A .stands)) (call-fits w p (read sample) es s h (A .fits))
+      (call-keeps p (read sample) q (player-fits A) (A .stands)) (call-fits w p (read sample) es s h (A .fits))
   call-is (ride ms mm kinds values) es h k q s A = unfold afterCall in pieces-are kinds values es k q s A
   call-is (skip kinds values) es h k q s A =
       one-call k (skip kinds values) q (skipAsks w kinds values s) (afterCall w p (skip kinds values) es s) (skip-is w p T ok k q s (A .same) (A .stands) kinds values es)
-      (keeps (skip kinds values) q (player-fits A) (A .stands)) (call-fits w p (skip kinds values) es s h (A .fits))
+      (call-keeps p (skip kinds values) q (player-fits A) (A .stands)) (call-fits w p (skip kinds values) es s h (A .fits))
   call-is extend es h k q s A =
       one-call k extend q (extendAsks w s) (afterCall w p extend es s) (extend-is w p T ok k q s (A .same) (A .stands) es)
-      (keeps extend q (player-fits A) (A .stands)) (call-fits w p extend es s h (A .fits))
+      (call-keeps p extend q (player-fits A) (A .stands)) (call-fits w p extend es s h (A .fits))
 
   pub list-is : (l : List CutCall) → ReadsFit l → (k : List Event) (q : Player) (s : Progress) → After k q s
       → RunIs k (run p (cut l) q) (callsAsk w p l s) (afterCalls w p l s)

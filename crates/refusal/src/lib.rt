@@ -1,7 +1,7 @@
-// The questions of document 01, 'The questions, in order', as refusals: one case for each question that can fail,
-// with its number. `Invalid` is model.rs's; the others that codec.rs names keep their names.
+// The questions of document 01, 'The questions, in order', and of document 02's requests as refusals: one case for each question
+// that can fail, with its number. `Invalid` is model.rs's; the others that codec.rs names keep their names.
 ghost use mathlib.Core.Path.{_≡_};
-ghost use Rattle.refusal.specs.Number.{numberOf, NumbersApart};
+ghost use Rattle.refusal.specs.Number.{questionNumber, answerNumber, NumbersApart};
 
 // Why a workout cannot be played.
 pub enum Invalid {
@@ -35,12 +35,14 @@ pub enum Refusal {
     Output,
     // A player is standing, in document 01's word, if its fields agree with each other and lie within their limits.
     Standing,
+    // Request l: there are bikes 0 to 3.
+    BikeNumber,
 }
 
 impl Refusal {
-    // The number of document 01's question.
+    // The number of the question in documents 01 and 02.
     pub fn number(self) -> u32
-        ensures { λ r. ⌜ r ≡ numberOf self ⌝ }
+        ensures { λ r. ⌜ r ≡ questionNumber self ⌝ }
     {
         match self {
             Refusal::Length => 1,
@@ -65,6 +67,7 @@ impl Refusal {
             Refusal::Record => 18,
             Refusal::Output => 19,
             Refusal::Standing => 20,
+            Refusal::BikeNumber => 29,
         }
     }
 }
@@ -73,6 +76,18 @@ impl Refusal {
 pub enum Answer {
     Accepted,
     Refused(Refusal),
+}
+
+impl Answer {
+    // 0, or the number of the question.
+    pub fn number(self) -> u32
+        ensures { λ r. ⌜ r ≡ answerNumber self ⌝ }
+    {
+        match self {
+            Answer::Accepted => 0,
+            Answer::Refused(refusal) => refusal.number(),
+        }
+    }
 }
 
 // No two questions have one number, and none has 0.

@@ -189,7 +189,8 @@ fn ramp_now(core: Core, profile: TrainingProfile) -> ReadingOption
     }
 }
 
-fn band_now(core: Core, profile: TrainingProfile) -> BandOption
+// The band of the step on now, at its current second.
+pub fn band_now(core: Core, profile: TrainingProfile) -> BandOption
     requires { ⌜ ReportFits core ⌝ }
     ensures { λ r. ⌜ r ≡ shownBand core profile ⌝ }
 {

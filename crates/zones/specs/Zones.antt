@@ -7,7 +7,7 @@ use lib.ListN.{getD}
 use Rattle.refusal.specs.declared.Answer.{Answer}
 use Rattle.refusal.specs.declared.Answer.the-variants.{Accepted, Refused}
 use Rattle.refusal.specs.declared.Refusal.the-variants as refusals
-use Rattle.refusal.specs.Number.{ask, numberOf}
+use Rattle.refusal.specs.Number.{ask, questionNumber}
 use Rattle.zones.specs.declared.TrainingProfile.{TrainingProfile}
 use Rattle.zones.specs.declared.Range.{Range}
 use Rattle.zones.specs.declared.NewProfile.{NewProfile}
@@ -32,7 +32,7 @@ newOf p (Refused refusal) = made.Refused refusal
 -- none, beside the profile that the case has.
 abbrev pub newNumber : NewProfile → ℕ
 newNumber (made.Profile p) = 0
-newNumber (made.Refused refusal) = numberOf refusal
+newNumber (made.Refused refusal) = questionNumber refusal
 
 abbrev pub profileNew : ℕ → ℕ → NewProfile
 profileNew ftp lthr = let p : TrainingProfile = record { «ftp_watts» = ftp; «lthr_bpm» = lthr } in newOf p (profileAnswer p)

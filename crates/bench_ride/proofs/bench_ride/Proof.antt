@@ -3,6 +3,7 @@ use mathlib.Core.Path.{refl}
 use mathlib.Core.List.{flatMap}
 use Rattle.machine.specs.Runs.{called}
 use Rattle.common.specs.Lists.{all, allAt, sum, range}
+use Rattle.refusal.specs.Number.{questionNumber}
 use Rattle.le.specs.Le.{numberOf, bytesOf}
 use Rattle.checksum.specs.V42.{add, remainder, quotient, product, digits, bits, frameCheck, number}
 use Rattle.checksum.specs.V42 as checksum-v42
@@ -42,7 +43,7 @@ use Rattle.bench_ride.proofs.bench_ride.Statement.{statement}
 use Rattle.bench_ride.proofs.bench_ride.Tie as tie
 
 returns : tie.Need-returns
-unfolding flatMap all allAt called sum range numberOf bytesOf add remainder quotient product digits bits frameCheck number checksum-v42.checkOf sizeOk actIn actsFrom sampleOk actOk faultFrom sheet-sheet.checkOf nameFrom nameOk percentOf profileAnswer capped rampOption bandOf emptyWorkout allApart blocksSound repeats run runs order nth playedOf playedLen order-order.blockAt order-order.stepAt testOf readCounts readHead readBlock readBody contentsOf decode-decode.blockAt decode-decode.decodeOf intensityOf lengthOf targetOf fixedOf readStep steps-steps.stepAt isNoStep stepSlots blockSlots formOk stepOk validAnswer workoutAnswer readText readName andThen readMany takeBytes readByte flagsOf textBytes tallyBytes recordBytes history-record.headBytes history-record.bodyBytes window meanBy average averageOf added taken readingOf judged complianceOf tallied shareOf untilEnd readCore measuredOf resultOf countdownsTo isOver arrived nextOf sameLength sameTarget sameStep sameBytes sameName onPlace coreOk standingOf advanced closed roundOf rounds fresh newOf rideNow updateAnswer rideAnswer rideOf readAnswer readOf actCalled playActs playSheet riddenOf replayAnswer replayOutput decimalIn decimalOf summaryText refusalText lineOf
+unfolding flatMap all allAt called sum range questionNumber numberOf bytesOf add remainder quotient product digits bits frameCheck number checksum-v42.checkOf sizeOk actIn actsFrom sampleOk actOk faultFrom sheet-sheet.checkOf nameFrom nameOk percentOf profileAnswer capped rampOption bandOf emptyWorkout allApart blocksSound repeats run runs order nth playedOf playedLen order-order.blockAt order-order.stepAt testOf readCounts readHead readBlock readBody contentsOf decode-decode.blockAt decode-decode.decodeOf intensityOf lengthOf targetOf fixedOf readStep steps-steps.stepAt isNoStep stepSlots blockSlots formOk stepOk validAnswer workoutAnswer readText readName andThen readMany takeBytes readByte flagsOf textBytes tallyBytes recordBytes history-record.headBytes history-record.bodyBytes window meanBy average averageOf added taken readingOf judged complianceOf tallied shareOf untilEnd readCore measuredOf resultOf countdownsTo isOver arrived nextOf sameLength sameTarget sameStep sameBytes sameName onPlace coreOk standingOf advanced closed roundOf rounds fresh newOf rideNow updateAnswer rideAnswer rideOf readAnswer readOf actCalled playActs playSheet riddenOf replayAnswer replayOutput decimalIn decimalOf summaryText refusalText lineOf
 returns c = record { accepted = refl; record-is = refl; line-is = refl; refused = refl; stays = refl; refused-line-is = refl }
 
 pub bench-ride-spec : {M : Type 1} → statement M

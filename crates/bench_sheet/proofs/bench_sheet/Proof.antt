@@ -2,6 +2,7 @@
 use mathlib.Core.Path.{refl}
 use mathlib.Core.List.{flatMap}
 use Rattle.common.specs.Lists.{all, range, sum, allAt}
+use Rattle.refusal.specs.Number.{questionNumber}
 use Rattle.names.specs.Names.{nameOk}
 use Rattle.zones.specs.Zones.{percentOf, heartZone, heartRange}
 use Rattle.model.specs.Target.{bandOf, capped, rampOption}
@@ -25,7 +26,7 @@ use Rattle.bench_sheet.proofs.bench_sheet.Statement.{statement}
 use Rattle.bench_sheet.proofs.bench_sheet.Tie as tie
 
 returns : tie.Need-returns
-unfolding flatMap all range sum allAt nameOk percentOf heartZone heartRange bandOf capped rampOption blocksSound allApart repeats run runs blockAt order playedLen nth stepAt playedOf formOk stepSlots blockSlots isNoStep stepOk validAnswer workoutAnswer window meanBy average averageOf added taken complianceOf tallied shareOf untilEnd readCore measuredOf twentyFtp resultOf countdownsTo isOver arrived nextOf sameLength sameTarget sameStep sameBytes sameName onPlace coreOk standingOf advanced closed roundOf rounds fresh newOf rideNow updateAnswer rideAnswer rideOf readAnswer readOf untilOf
+unfolding questionNumber flatMap all range sum allAt nameOk percentOf heartZone heartRange bandOf capped rampOption blocksSound allApart repeats run runs blockAt order playedLen nth stepAt playedOf formOk stepSlots blockSlots isNoStep stepOk validAnswer workoutAnswer window meanBy average averageOf added taken complianceOf tallied shareOf untilEnd readCore measuredOf twentyFtp resultOf countdownsTo isOver arrived nextOf sameLength sameTarget sameStep sameBytes sameName onPlace coreOk standingOf advanced closed roundOf rounds fresh newOf rideNow updateAnswer rideAnswer rideOf readAnswer readOf untilOf
 returns c =
     record {
       bytes-3 = bytes-3;

@@ -21,7 +21,7 @@ returns : tie.Need-returns
 returns c = sym (ap writtenNumber (c .before .encoded .given .1))
 
 returns-2 : tie.Need-returns-2
-returns-2 c = search needs
+returns-2 c = simp (c .before .before .encoded2 .given .1, c .number .ensures)
 
 pub written-number-spec : {M : Type 1} → statement M
 written-number-spec =

@@ -3,14 +3,14 @@ use borrow.Author.Needs.{needs}
 use Rattle.console.proofs.in_numbers.Statement.{statement}
 use Rattle.console.proofs.in_numbers.Tie as tie
 
-answer-number-requires : tie.Need-answer-number-requires
-answer-number-requires c κs = search needs
+number-requires : tie.Need-number-requires
+number-requires c κs = search needs
 
 act-number-requires : tie.Need-act-number-requires
 act-number-requires c κs = search needs
 
 returns : tie.Need-returns
-returns c = simp (c .act-number .ensures, c .before .answer-number .ensures)
+returns c = simp (c .act-number .ensures, c .before .number .ensures)
 
 pub in-numbers-spec : {M : Type 1} → statement M
-in-numbers-spec = tie.close (tie.spec answer-number-requires act-number-requires returns)
+in-numbers-spec = tie.close (tie.spec number-requires act-number-requires returns)

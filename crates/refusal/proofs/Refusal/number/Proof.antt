@@ -1,5 +1,6 @@
 -- `Refusal::number`: one case for each refusal.
 use borrow.Author.Needs.{needs}
+use Rattle.refusal.specs.Number.{questionNumber}
 use Rattle.refusal.proofs.Refusal.number.Statement.{statement}
 use Rattle.refusal.proofs.Refusal.number.Tie as tie
 
@@ -66,65 +67,92 @@ enum-told-19 c = search needs
 enum-told-20 : tie.Need-enum-told-20
 enum-told-20 c = search needs
 
+enum-told-21 : tie.Need-enum-told-21
+enum-told-21 c = search needs
+
 returns : tie.Need-returns
+unfolding questionNumber
 returns c = simp (c .enum-told .given .1)
 
 returns-2 : tie.Need-returns-2
+unfolding questionNumber
 returns-2 c = simp (c .enum-told2 .given .1)
 
 returns-3 : tie.Need-returns-3
+unfolding questionNumber
 returns-3 c = simp (c .enum-told3 .given .1)
 
 returns-4 : tie.Need-returns-4
+unfolding questionNumber
 returns-4 c = simp (c .enum-told4 .given .1)
 
 returns-5 : tie.Need-returns-5
+unfolding questionNumber
 returns-5 c = simp (c .enum-told5 .given .1)
 
 returns-6 : tie.Need-returns-6
+unfolding questionNumber
 returns-6 c = simp (c .before .before .before .self .given .1, c .enum-told6 .given .1)
 
 returns-7 : tie.Need-returns-7
+unfolding questionNumber
 returns-7 c = simp (c .before .before .before .self .given .1, c .enum-told7 .given .1)
 
 returns-8 : tie.Need-returns-8
+unfolding questionNumber
 returns-8 c = simp (c .before .before .before .self .given .1, c .enum-told8 .given .1)
 
 returns-9 : tie.Need-returns-9
+unfolding questionNumber
 returns-9 c = simp (c .before .before .before .self .given .1, c .enum-told9 .given .1)
 
 returns-10 : tie.Need-returns-10
+unfolding questionNumber
 returns-10 c = simp (c .enum-told10 .given .1)
 
 returns-11 : tie.Need-returns-11
+unfolding questionNumber
 returns-11 c = simp (c .enum-told11 .given .1)
 
 returns-12 : tie.Need-returns-12
+unfolding questionNumber
 returns-12 c = simp (c .enum-told12 .given .1)
 
 returns-13 : tie.Need-returns-13
+unfolding questionNumber
 returns-13 c = simp (c .enum-told13 .given .1)
 
 returns-14 : tie.Need-returns-14
+unfolding questionNumber
 returns-14 c = simp (c .enum-told14 .given .1)
 
 returns-15 : tie.Need-returns-15
+unfolding questionNumber
 returns-15 c = simp (c .enum-told15 .given .1)
 
 returns-16 : tie.Need-returns-16
+unfolding questionNumber
 returns-16 c = simp (c .enum-told16 .given .1)
 
 returns-17 : tie.Need-returns-17
+unfolding questionNumber
 returns-17 c = simp (c .enum-told17 .given .1)
 
 returns-18 : tie.Need-returns-18
+unfolding questionNumber
 returns-18 c = simp (c .enum-told18 .given .1)
 
 returns-19 : tie.Need-returns-19
+unfolding questionNumber
 returns-19 c = simp (c .enum-told19 .given .1)
 
 returns-20 : tie.Need-returns-20
+unfolding questionNumber
 returns-20 c = simp (c .enum-told20 .given .1)
+
+returns-21 : tie.Need-returns-21
+unfolding questionNumber
+returns-21 c = simp (c .enum-told21 .given .1)
 
 pub number-spec : {M : Type 1} → statement M
 number-spec =
@@ -151,6 +179,7 @@ number-spec =
     enum-told-18
     enum-told-19
     enum-told-20
+    enum-told-21
     returns
     returns-2
     returns-3
@@ -170,4 +199,5 @@ number-spec =
     returns-17
     returns-18
     returns-19
-    returns-20)
+    returns-20
+    returns-21)
