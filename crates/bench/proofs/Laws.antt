@@ -1,8 +1,10 @@
--- Rides one after the other.
+-- Rides one after the other; grants one after the other.
 use mathlib.Core.Path.{_≡_, refl, sym, ap, _∙_}
 use Prim.Native.Nat.{ℕ, zero, suc, _+_, _-_, _≤_, _<_}
 use native.Mathlib.Omega.{arith}
 use mathlib.Core.Bool.{true, false}
+use mathlib.Core.List.{List}
+use native.Mathlib.Numerals.{add-one}
 use Rattle.refusal.specs.declared.Answer.the-variants.{Accepted, Refused}
 use Rattle.refusal.specs.declared.Refusal.{Refusal}
 use Rattle.state.specs.declared.Player.{Player}
@@ -13,7 +15,9 @@ use Rattle.player.specs.Calls.{updateAnswer}
 use Rattle.player.proofs.Laws.{ride-20, ride-refused, ride-taken}
 use Rattle.keeps.specs.Keeps.{PlayerFits}
 use Rattle.keeps.proofs.Calls.{ride-kept}
+use Rattle.frame.specs.declared.Bike.{Bike}
 use Rattle.bench.specs.Rides.{profile, riddenOf, ridesOf}
+use Rattle.bench.specs.Grants.{askedWatts, wattsTotal}
 
 pub rides-next : (n i : ℕ) (p q : Player) → i < n → ridesOf (n - i) p ≡ q → ridesOf (n - (i + 1)) (riddenOf p) ≡ q
 unfolding ridesOf
@@ -51,3 +55,11 @@ module _ (p : Player) where
     pub ridden-stands : PlayerFits p → standingOf (riddenOf p) ≡ true
     unfolding riddenOf
     ridden-stands fits = ride-kept p 250 2000 profile 193 193 fits e
+
+pub total-start : (bikes : List Bike) → 0 ≡ wattsTotal 0 bikes
+unfolding wattsTotal
+total-start bikes = refl
+
+pub total-next : (i : ℕ) (bikes : List Bike) → wattsTotal i bikes + askedWatts bikes i ≡ wattsTotal (i + 1) bikes
+unfolding wattsTotal
+total-next i bikes = sym (ap (λ (k : ℕ). wattsTotal k bikes) (add-one i))

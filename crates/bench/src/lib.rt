@@ -1,5 +1,5 @@
 // The calls that bench/run times from outside: `crc32`; reading and writing a workout file and a ride record; rides of 250 ms, with
-// question 20 at each and without.
+// question 20 at each and without; what one of four bikes gets of a supply.
 ghost use mathlib.Core.Path.{_≡_};
 ghost use mathlib.Core.Bool.{true};
 ghost use lib.ListN.{length};
@@ -13,6 +13,9 @@ ghost use Rattle.compare_files.specs.Files.{fileWord, writtenNumber};
 ghost use Rattle.compare_records.specs.Records.{readWord};
 ghost use Rattle.standing.specs.Standing.{standingOf};
 ghost use Rattle.bench.specs.Rides.{begunOf, riddenOf, ridesOf};
+ghost use Rattle.bench.specs.Grants.{askedBikes, askedWatts, wattsTotal};
+use frame::Bike;
+use frame::grant;
 use player::ride;
 use player::update_answer;
 use power::ReadingOption;
@@ -149,4 +152,63 @@ pub extern "C" fn known_rides(file: &[u8], n: u32) -> u64
         i += 1;
     }
     player.core.total_ms.0
+}
+
+// Four bikes with one player: each rider has a profile of their own.
+fn asked_bikes(player: Player) -> [Bike; 4]
+    ensures { λ r. ⌜ r ≡ askedBikes player ⌝ }
+{
+    [
+        Bike {
+            player,
+            profile: TrainingProfile {
+                ftp_watts: 180,
+                lthr_bpm: 160,
+            },
+        },
+        Bike {
+            player,
+            profile: TrainingProfile {
+                ftp_watts: 200,
+                lthr_bpm: 160,
+            },
+        },
+        Bike {
+            player,
+            profile: TrainingProfile {
+                ftp_watts: 250,
+                lthr_bpm: 160,
+            },
+        },
+        Bike {
+            player,
+            profile: TrainingProfile {
+                ftp_watts: 300,
+                lthr_bpm: 160,
+            },
+        },
+    ]
+}
+
+// The `i`-th grant: the bikes in turn, of a supply that goes from 700 to 899 W and back to 700.
+fn asked_grant(bikes: [Bike; 4], i: u32) -> u16
+    ensures { λ r. ⌜ r ≡ askedWatts bikes i ⌝ }
+{
+    let granted = grant(bikes, 700 + i % 200, i % 4);
+    granted.watts
+}
+
+// The watts of `n` grants together.
+#[no_mangle]
+pub extern "C" fn asked_grants(file: &[u8], n: u32) -> u64
+    ensures { λ r. ⌜ r ≡ wattsTotal n (askedBikes (begunOf (now (file .entry)))) ⌝ }
+{
+    let bikes = asked_bikes(begun(file));
+    let mut total: u64 = 0;
+    let mut i: u32 = 0;
+    while i < n {
+        total += asked_grant(bikes, i) as u64;
+        i += 1;
+    }
+    total
 }
