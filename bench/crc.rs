@@ -81,7 +81,7 @@ pub fn lines() -> Result<Vec<Line>, String> {
             [&mut || _ = black_box(rattle(black_box(bytes))), &mut || _ = black_box(rust(black_box(bytes)))],
         );
         let bar = if len == MOST { "1.3" } else { "" };
-        Line { what: format!("crc32 of {size} bytes"), rattle, rust, bar }
+        Line::new(format!("crc32 of {size} bytes"), rattle, rust, bar)
     };
     Ok([("59,200", MOST), ("475", 475), ("70", 70)].map(line).into())
 }

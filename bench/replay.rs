@@ -183,7 +183,7 @@ pub fn lines() -> Result<Vec<Line>, String> {
             1,
             [&mut || _ = black_box(rattle(file, sheet, &mut out)), &mut || _ = black_box(rust(file, sheet))],
         );
-        lines.push(Line { what: format!("replay of 4,096 acts, {name}"), rattle, rust, bar: "1.0" });
+        lines.push(Line::new(format!("replay of 4,096 acts, {name}"), rattle, rust, "1.0"));
     }
     Ok(lines)
 }
