@@ -23,7 +23,7 @@ const GRANTS: u32 = 4_096;
 const WANT: u32 = 200;
 
 fn file() -> Vec<u8> {
-    let step = |i: u16| Step::new(Intensity::Work, Length::Time(20 + i), Target::Watts { low: 100 + i, high: WANT as u16 + i });
+    let step = |i: u16| Step::new(Intensity::Work, Length::Time(20 + i), Target::Watts { low: 100 + i, high: 200 + i });
     let steps: Vec<Step> = (0..12).map(step).collect();
     let block = Block { first: 0, len: 12, count: 8 };
     codec::encode(&Workout::new("RIDES", &steps, &[block], None)).to_vec()
