@@ -72,7 +72,7 @@ fn class_bikes() -> [Bike; 4]
 
 // The rider skips the step that is on. A console shows the events, 193 at most, that the call leaves in its two arrays; here they
 // are dropped.
-fn skipped(bike: Bike) -> Bike
+fn skipped_bike(bike: Bike) -> Bike
     ensures { λ r. ⌜ r ≡ skippedBike bike ⌝ }
 {
     let mut kinds: [u8; 193] = [0; 193];
@@ -93,7 +93,7 @@ fn after_skip(bikes: [Bike; 4], bike: usize) -> [Bike; 4]
     ensures { λ r. ⌜ r ≡ skippedAt bike bikes ⌝ }
 {
     let mut after = bikes;
-    after[bike] = skipped(bikes[bike]);
+    after[bike] = skipped_bike(bikes[bike]);
     after
 }
 
@@ -109,7 +109,7 @@ fn class_grants(bikes: [Bike; 4], supply: u32) -> [u16; 4]
 }
 
 // Prints the grants behind a title, and gives them.
-fn report(title: &[u8], bikes: [Bike; 4]) -> [u16; 4]
+fn print_grants(title: &[u8], bikes: [Bike; 4]) -> [u16; 4]
     ensures { λ r. ⌜ r ≡ fourGrants bikes 800 ⌝ }
 {
     let grants = class_grants(bikes, SUPPLY);
@@ -127,7 +127,7 @@ fn report(title: &[u8], bikes: [Bike; 4]) -> [u16; 4]
 fn main() {
     let bikes = class_bikes();
     // The four want 200, 250, 300 and 180 W, which is 130 too many: bikes 1 and 2 get 210.
-    report(b"supply 800 W:", bikes);
+    print_grants(b"supply 800 W:", bikes);
     // The workout has one step, so a bike that skips it is finished and wants nothing.
-    report(b"bike 2 finished:", after_skip(bikes, 2));
+    print_grants(b"bike 2 finished:", after_skip(bikes, 2));
 }

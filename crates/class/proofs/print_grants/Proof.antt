@@ -1,8 +1,8 @@
--- `report`: what is printed is what `class_grants` gives.
+-- `print_grants`: what is printed is what `class_grants` gives.
 use Prim.Native.Nat.{_≤_, _-_}
 use borrow.Author.Needs.{needs}
-use Rattle.class.proofs.report.Statement.{statement}
-use Rattle.class.proofs.report.Tie as tie
+use Rattle.class.proofs.print_grants.Statement.{statement}
+use Rattle.class.proofs.print_grants.Tie as tie
 
 abbrev Inv-loop : tie.InvT-loop
 Inv-loop title grants i₀ t5 t6 i = i ≤ 4
@@ -55,8 +55,8 @@ write-all-requires-3 c κs = search needs
 returns : tie.Need-returns Inv-loop μ-loop
 returns c = c .before .before .before .before .before .class-grants .ensures
 
-pub report-spec : {M : Type 1} → statement M
-report-spec =
+pub print-grants-spec : {M : Type 1} → statement M
+print-grants-spec =
     tie.close
     (tie.spec
     Inv-loop
