@@ -1,9 +1,13 @@
 // Request l as a console uses it: four bikes in a full class, the supply short, then one finishes. A line for each says what the four
-// brakes may draw.
+// brakes may draw. The numbers are proved too: `frame_records::full_class`.
 ghost use mathlib.Core.Path.{_≡_};
 ghost use Prim.Native.Nat.{_<_};
 ghost use Rattle.frame.specs.Frame.{fourGrants};
-ghost use Rattle.class.specs.Class.{classWorkout, classBike, classBikes, skippedBike, skippedAt};
+ghost use Rattle.model.specs.declared.Length.the-variants.{Time};
+ghost use Rattle.model.specs.declared.Target.the-variants.{Ftp};
+ghost use Rattle.machine.specs.Cutting as calls;
+ghost use Rattle.frame_records.specs.Apart.{afterCall, changedAt};
+ghost use Rattle.frame_records.specs.Class.{oneStep, rider, riders};
 use frame::Bike;
 use frame::grant;
 use libc::STDOUT_FILENO;
@@ -24,7 +28,7 @@ const SUPPLY: u32 = 800;
 
 // One step: ten minutes at 90 to 100 % of FTP.
 fn class_workout() -> Workout
-    ensures { λ r. ⌜ r ≡ classWorkout ⌝ }
+    ensures { λ r. ⌜ r ≡ oneStep (Time 600) (Ftp 90 100) ⌝ }
 {
     let mut steps = [NO_STEP; 12];
     steps[0] = Step {
@@ -45,7 +49,7 @@ fn class_workout() -> Workout
 
 // A bike at the start of the workout. FTP is its rider's: of each rider the step asks other watts.
 fn class_bike(ftp: u16) -> Bike
-    ensures { λ r. ⌜ r ≡ classBike ftp ⌝ }
+    ensures { λ r. ⌜ r ≡ rider ftp ⌝ }
 {
     let made = start::new(class_workout());
     let player = made.player;
@@ -60,7 +64,7 @@ fn class_bike(ftp: u16) -> Bike
 
 // Bikes 0 to 3.
 fn class_bikes() -> [Bike; 4]
-    ensures { λ r. ⌜ r ≡ classBikes ⌝ }
+    ensures { λ r. ⌜ r ≡ riders ⌝ }
 {
     [
         class_bike(200),
@@ -73,7 +77,7 @@ fn class_bikes() -> [Bike; 4]
 // The rider skips the step that is on. A console shows the events, 193 at most, that the call leaves in its two arrays; here they
 // are dropped.
 fn skipped_bike(bike: Bike) -> Bike
-    ensures { λ r. ⌜ r ≡ skippedBike bike ⌝ }
+    ensures { λ r. ⌜ r ≡ afterCall (calls.skip 193 193) bike ⌝ }
 {
     let mut kinds: [u8; 193] = [0; 193];
     let mut values: [u16; 193] = [0; 193];
@@ -90,7 +94,7 @@ fn skipped_bike(bike: Bike) -> Bike
 // A bike's call changes that bike alone.
 fn after_skip(bikes: [Bike; 4], bike: usize) -> [Bike; 4]
     requires { ⌜ bike < 4 ⌝ }
-    ensures { λ r. ⌜ r ≡ skippedAt bike bikes ⌝ }
+    ensures { λ r. ⌜ r ≡ changedAt bike (afterCall (calls.skip 193 193)) bikes ⌝ }
 {
     let mut after = bikes;
     after[bike] = skipped_bike(bikes[bike]);

@@ -13,6 +13,7 @@ use Rattle.model.specs.declared.Length.the-variants.{Time, Open}
 use Rattle.model.specs.declared.Target.{Target}
 use Rattle.model.specs.declared.Target.the-variants.{Free, Ftp, Watts, HeartZone, Lthr, Cadence, Ramp, FtpRamp}
 use Rattle.model.specs.declared.Test.the-variants.{None}
+use Rattle.model.specs.declared.Workout.{Workout}
 use Rattle.model.specs.Workout.{emptyWorkout}
 use Rattle.start.specs.Start.{newOf}
 use Rattle.frame.specs.declared.Bike.{Bike}
@@ -22,13 +23,12 @@ use Rattle.machine.specs.Samples.{workout}
 use Rattle.machine.specs.Cutting.{ride, skip}
 use Rattle.frame_records.specs.Apart.{FrameCall, call, grant, frameRun}
 
+abbrev pub oneStep : Length → Target → Workout
+oneStep lasts target = workout None (record { intensity = Work; length = lasts; target = target; note = emptyName } ∷ [])
+
 -- A fresh bike on a workout of one step, under its rider's FTP.
 abbrev pub bikeOf : ℕ → Length → Target → Bike
-bikeOf ftp lasts target =
-    record {
-      player = newOf (workout None (record { intensity = Work; length = lasts; target = target; note = emptyName } ∷ [])) .player;
-      profile = record { «ftp_watts» = ftp; «lthr_bpm» = 160 };
-    }
+bikeOf ftp lasts target = record { player = newOf (oneStep lasts target) .player; profile = record { «ftp_watts» = ftp; «lthr_bpm» = 160 } }
 
 -- A rider at 90 to 100 % of FTP for ten minutes.
 abbrev pub rider : ℕ → Bike

@@ -4,7 +4,9 @@ use lib.ListN.{set}
 use native.Mathlib.Omega.{arith}
 use borrow.Author.Needs.{needs}
 use Rattle.frame.specs.declared.Bike.{Bike}
-use Rattle.class.proofs.Laws.{skipped-at}
+use Rattle.machine.specs.Cutting.{skip}
+use Rattle.frame_records.specs.Apart.{afterCall}
+use Rattle.class.proofs.Laws.{set-changed}
 use Rattle.class.proofs.after_skip.Statement.{statement}
 use Rattle.class.proofs.after_skip.Tie as tie
 
@@ -26,7 +28,7 @@ array-set-from-after c = search needs
 returns : tie.Need-returns
 returns c =
     let a = c .before .before .args in
-    ap (λ (b : Bike). set (a .t1) (a .bike) b) (c .skipped-bike .ensures) ∙ skipped-at (a .t1) (a .bike) _ (omega arith)
+    ap (λ (b : Bike). set (a .t1) (a .bike) b) (c .skipped-bike .ensures) ∙ set-changed (afterCall (skip 193 193)) (a .t1) (a .bike) _ (omega arith)
 
 pub after-skip-spec : {M : Type 1} → statement M
 after-skip-spec =

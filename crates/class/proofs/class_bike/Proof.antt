@@ -3,7 +3,6 @@ use mathlib.Core.Path.{ap, _∙_}
 use borrow.Author.Needs.{needs}
 use Rattle.start.specs.declared.NewPlayer.{NewPlayer}
 use Rattle.start.specs.Start.{newOf}
-use Rattle.class.specs.Class.{classBike}
 use Rattle.class.proofs.class_bike.Statement.{statement}
 use Rattle.class.proofs.class_bike.Tie as tie
 
@@ -14,7 +13,6 @@ new-requires : tie.Need-new-requires
 new-requires c κs = search needs
 
 returns : tie.Need-returns
-unfolding classBike
 returns c =
     let a = c .before .before .before .args in
     ap (λ (m : NewPlayer). record { player = m .player; profile = record { «ftp_watts» = a .ftp; «lthr_bpm» = 160 } })

@@ -1,6 +1,5 @@
 -- `class_bikes`: four bikes, each made as the last.
 use borrow.Author.Needs.{needs}
-use Rattle.class.specs.Class.{classBikes}
 use Rattle.class.proofs.class_bikes.Statement.{statement}
 use Rattle.class.proofs.class_bikes.Tie as tie
 
@@ -17,7 +16,6 @@ class-bike-requires-4 : tie.Need-class-bike-requires-4
 class-bike-requires-4 c κs = search needs
 
 returns : tie.Need-returns
-unfolding classBikes
 returns c = simp (c .class-bike4 .ensures, c .before .class-bike3 .ensures, c .before .before .class-bike2 .ensures, c .before .before .before .class-bike .ensures)
 
 pub class-bikes-spec : {M : Type 1} → statement M

@@ -1,6 +1,5 @@
 -- `class_workout`: the step at place 0, and unused places.
 use borrow.Author.Needs.{needs}
-use Rattle.class.specs.Class.{classWorkout}
 use Rattle.class.proofs.class_workout.Statement.{statement}
 use Rattle.class.proofs.class_workout.Tie as tie
 
@@ -14,7 +13,6 @@ empty-requires-2 : tie.Need-empty-requires-2
 empty-requires-2 c κs = search needs
 
 returns : tie.Need-returns
-unfolding classWorkout
 returns c = simp (c .empty2 .ensures, c .before .empty .ensures)
 
 pub class-workout-spec : {M : Type 1} → statement M

@@ -2,7 +2,7 @@
 use mathlib.Core.Path.{ap}
 use borrow.Author.Needs.{needs}
 use Rattle.state.specs.declared.Player.{Player}
-use Rattle.class.specs.Class.{skippedBike}
+use Rattle.machine.specs.Runs.{called}
 use Rattle.class.proofs.skipped_bike.Statement.{statement}
 use Rattle.class.proofs.skipped_bike.Tie as tie
 
@@ -16,7 +16,7 @@ skip-requires : tie.Need-skip-requires
 skip-requires c κs = search needs
 
 returns : tie.Need-returns
-unfolding skippedBike
+unfolding called
 returns c =
     let b = c .before .before .before .before .before .before .before .before .args .bike in
     ap (λ (p : Player). record { player = p; profile = b .profile }) (c .before .before .before .skip .ensures .player)
