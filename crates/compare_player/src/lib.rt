@@ -293,7 +293,7 @@ pub extern "C" fn compare_player(file: &[u8], calls: &[u8], answer: &mut [u32])
 }
 
 // The player after k calls.
-fn seen_at(file: &[u8], calls: &[u8], k: u32) -> Seen
+pub fn seen_at(file: &[u8], calls: &[u8], k: u32) -> Seen
     requires { ⌜ k ≤ 12500 ⌝ }
     ensures { λ r. ⌜ r ≡ seenAfter (now (file .entry)) (now (calls .entry)) k ⌝ }
 {
