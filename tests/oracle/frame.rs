@@ -73,6 +73,7 @@ struct Tally {
 }
 
 impl Tally {
+    /// Counts a grant by what it is.
     fn grant(&mut self, want: u32, watts: u32) {
         match watts {
             0 => self.none += 1,
@@ -81,6 +82,7 @@ impl Tally {
         }
     }
 
+    /// Counts a comparison, and says whether a difference is to be written out.
     fn differs(&mut self, ours: u32, judged: u32) -> bool {
         self.compared += 1;
         self.different += u64::from(ours != judged);
