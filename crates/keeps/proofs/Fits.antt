@@ -104,13 +104,13 @@ module _ (p : Player) (fits : PlayerFits p) where
       longer true secs metres = fits-by p (extendedBy p (longerCore secs metres (p .core)) .player) refl refl fits
       longer false secs metres = fits-by p (extendedBy p (notLonger (Refused refusals.Extra) (p .core)) .player) refl refl fits
 
-      by : (lasts : Length) → PlayerFits (extendedBy p (extendCore 60 500 lasts (p .core)) .player)
-      by (Time secs) = longer (leb (p .core .lap .«extra_s» + 60) 86400) 60 0
-      by (Distance metres) = longer (leb (p .core .lap .«extra_m» + 500) 1000000) 0 500
-      by Open = fits-by p (extendedBy p (notLonger Accepted (p .core)) .player) refl refl fits
+      by : (secs metres : ℕ) (lasts : Length) → PlayerFits (extendedBy p (extendCore secs metres lasts (p .core)) .player)
+      by secs metres (Time time) = longer (leb (p .core .lap .«extra_s» + secs) 86400) secs 0
+      by secs metres (Distance way) = longer (leb (p .core .lap .«extra_m» + metres) 1000000) 0 metres
+      by secs metres Open = fits-by p (extendedBy p (notLonger Accepted (p .core)) .player) refl refl fits
 
       at : (stands done : Bool) (lasts : Length)
           → PlayerFits (cond stands (cond done (notExtended Accepted p) (extendedBy p (extendCore 60 500 lasts (p .core)))) (notExtended (Refused refusals.Standing) p) .player)
       at true true lasts = fits
-      at true false lasts = by lasts
+      at true false lasts = by 60 500 lasts
       at false done lasts = fits
