@@ -1,5 +1,5 @@
 -- Laws of the four bikes' questions, asked in turn, and of the wants that are gathered meanwhile.
-use mathlib.Core.Path.{_≡_, refl, sym, ap, ap₂, _∙_, subst}
+use mathlib.Core.Path.{_≡_, refl, sym, ap, ap₂, _∙_}
 use mathlib.Core.Bool.{Bool, true, false}
 use mathlib.Core.List.{List, [], _∷_, _++_, map, append-nil}
 use Prim.Native.Nat.{ℕ, zero, suc, _+_, _-_, _≤_, _<_}
@@ -19,10 +19,8 @@ use Rattle.zones.specs.Zones.{profileOk}
 use Rattle.standing.specs.Standing.{standingOf}
 use Rattle.screen.specs.Screen.{ReportFits}
 use Rattle.reports.proofs.Laws.{report-fits}
-use Rattle.supply.specs.Supply.{grantsOf, Shared}
-use Rattle.supply.proofs.Laws.{grants-are, shared-is}
 use Rattle.frame.specs.declared.Bike.{Bike}
-use Rattle.frame.specs.Frame.{wantOf, bikesAnswer, grantBy, grantOf, fourGrants, GrantsShared}
+use Rattle.frame.specs.Frame.{wantOf, bikesAnswer, grantBy, grantOf}
 
 pub asked-fits : (b : Bike) → bikesAnswer (b ∷ []) ≡ Accepted → ReportFits (b .player .core)
 unfolding bikesAnswer
@@ -93,28 +91,3 @@ module _ (bikes : List Bike) (supply bike : ℕ) where
   pub grant-is : (a : Answer) → bike ≤ 3 → bikesAnswer bikes ≡ a → grantBy a bikes supply bike ≡ grantOf bikes supply bike
   unfolding grantOf
   grant-is a h e = sym (ap₂ (λ (t : Bool) (b : Answer). grantBy (ask t refusals.BikeNumber b) bikes supply bike) (le-leb bike 3 h) e)
-
--- the call's four answers, all by one answer of the questions
-four-by : (bikes : List Bike) (supply : ℕ) (a : Answer) → bikesAnswer bikes ≡ a → fourGrants bikes supply
-    ≡ grantBy a bikes supply 0 .watts ∷ grantBy a bikes supply 1 .watts ∷ grantBy a bikes supply 2 .watts ∷ grantBy a bikes supply 3 .watts ∷ []
-four-by bikes supply a e = simp (sym (at 0 (omega arith)), sym (at 1 (omega arith)), sym (at 2 (omega arith)), sym (at 3 (omega arith)))
-  where
-    at : (bike : ℕ) → bike ≤ 3 → grantBy a bikes supply bike ≡ grantOf bikes supply bike
-    at bike h = grant-is bikes supply bike a h e
-
-module _ (a b c d : Bike) (supply : ℕ) where
-  abbrev four : List Bike
-  four = a ∷ b ∷ c ∷ d ∷ []
-
-  abbrev placesOf : List ℕ → List ℕ
-  placesOf grants = getD grants 0 0 ∷ getD grants 1 0 ∷ getD grants 2 0 ∷ getD grants 3 0 ∷ []
-
-  four-are : bikesAnswer four ≡ Accepted → fourGrants four supply ≡ grantsOf (map wantOf four) supply
-  four-are e =
-      four-by four supply Accepted e ∙ ap placesOf (grants-are (map wantOf four) supply) ∙ sym (grants-are (map wantOf four) supply)
-
-  four-shared : bikesAnswer four ≡ Accepted → Shared (map wantOf four) supply (fourGrants four supply)
-  four-shared e = subst (Shared (map wantOf four) supply) (sym (four-are e)) (shared-is (map wantOf four) supply refl)
-
-pub grants-shared-are : GrantsShared
-grants-shared-are = record { accepted = four-shared; refused = λ a b c d supply refusal. four-by (a ∷ b ∷ c ∷ d ∷ []) supply (Refused refusal) }
