@@ -1,8 +1,9 @@
 //! Lists of calls whose rides are cut at random: the Rattle's player of crate `compare_cut`, from a static library, against
 //! document 01's millisecond machine (machine.rs), call by call of the cut list for refusals, and after each call of the uncut
 //! list for the record's fields and the started, finished and FTP events given so far; and, where nothing is refused, the
-//! Rust's player on the cut list. Words: how many lists, and the seed. Fails on a difference, and where a refusal or a kind of
-//! event wasn't met.
+//! Rust's player on the cut list. Rides and skips are lent exactly the places that question 14 wants then, one fewer in either
+//! array, more, 193, or none. Words: how many lists, and the seed. Fails on a difference, and where a refusal, a kind of event or
+//! a call with exact arrays, before the finish and after it, wasn't met.
 mod machine;
 
 use inputs::Random;
@@ -29,12 +30,33 @@ unsafe extern "C" {
 const WORDS: usize = 11;
 const NO_EVENTS: u32 = 7;
 
+/// The places that a ride or a skip is lent, of kinds and of values: so many, or so many more than question 14 wants then.
+#[derive(Clone, Copy, Debug)]
+enum Lent {
+    Places([u32; 2]),
+    Wanted([i32; 2]),
+}
+
+const MOST: Lent = Lent::Places([193, 193]);
+const EXACT: Lent = Lent::Wanted([0, 0]);
+
 #[derive(Clone, Debug)]
 enum Call {
     Read(Sample),
-    Ride(Vec<(u64, u64)>, [u32; 2]),
-    Skip([u32; 2]),
+    Ride(Vec<(u64, u64)>, Lent),
+    Skip(Lent),
     Extend,
+}
+
+/// The places of a call at this state of the machine; a read or an extend is lent none.
+fn places_of(call: &Call, machine: &Machine) -> [u32; 2] {
+    match call {
+        Call::Ride(_, lent) | Call::Skip(lent) => match lent {
+            Lent::Places(places) => *places,
+            Lent::Wanted(more) => more.map(|more| machine.places_wanted().saturating_add_signed(more)),
+        },
+        _ => [0, 0],
+    }
 }
 
 fn reading(value: Option<u16>) -> u32 {
@@ -43,7 +65,7 @@ fn reading(value: Option<u16>) -> u32 {
 
 /// Eight words to a call: kind (0 read, 1 ride, 3 skip, 4 extend), FTP, LTHR, ms, mm, and then power, heart and cadence of a
 /// read, the places of kinds and of values of a ride or a skip.
-fn words_of(call: &Call, profile: &TrainingProfile) -> Vec<[u32; 8]> {
+fn words_of(call: &Call, [kinds, values]: [u32; 2], profile: &TrainingProfile) -> Vec<[u32; 8]> {
     let head = |kind| [kind, profile.ftp_watts.into(), profile.lthr_bpm.into()];
     let words = |[kind, ftp, lthr]: [u32; 3], [ms, mm]: [u64; 2], rest: [u32; 3]| {
         [kind, ftp, lthr, ms as u32, mm as u32, rest[0], rest[1], rest[2]]
@@ -53,10 +75,10 @@ fn words_of(call: &Call, profile: &TrainingProfile) -> Vec<[u32; 8]> {
             let rest = [sample.power_watts, sample.heart_bpm, sample.cadence_tenths].map(reading);
             vec![words(head(0), [0, 0], rest)]
         }
-        Call::Ride(pieces, [kinds, values]) => {
-            pieces.iter().map(|&(ms, mm)| words(head(1), [ms, mm], [*kinds, *values, 0])).collect()
+        Call::Ride(pieces, _) => {
+            pieces.iter().map(|&(ms, mm)| words(head(1), [ms, mm], [kinds, values, 0])).collect()
         }
-        Call::Skip([kinds, values]) => vec![words(head(3), [0, 0], [*kinds, *values, 0])],
+        Call::Skip(_) => vec![words(head(3), [0, 0], [kinds, values, 0])],
         Call::Extend => vec![words(head(4), [0, 0], [0; 3])],
     }
 }
@@ -159,12 +181,16 @@ fn parts(random: &mut Random, total: u64, count: usize) -> Vec<u64> {
     cuts.windows(2).map(|pair| pair[1] - pair[0]).collect()
 }
 
-fn places(random: &mut Random) -> [u32; 2] {
-    match random.below(24) {
-        0 => [192, 193],
-        1 => [193, 0],
-        2 => [200, 193],
-        _ => [193, 193],
+fn lent(random: &mut Random) -> Lent {
+    match random.below(36) {
+        0 => Lent::Wanted([-1, 0]),
+        1 => Lent::Wanted([0, -1]),
+        2 => Lent::Wanted([-2, 7]),
+        3 => Lent::Places([193, 0]),
+        4 => Lent::Places([0, 0]),
+        5 => Lent::Wanted([7, 0]),
+        6..12 => MOST,
+        _ => EXACT,
     }
 }
 
@@ -190,7 +216,7 @@ fn ride(random: &mut Random, far: bool) -> Call {
     let count = 1 + random.below(5) as usize;
     let ways = if far { vec![900_000_000; count] } else { parts(random, mm, count) };
     let pieces = parts(random, ms, count).into_iter().zip(ways).collect();
-    Call::Ride(pieces, places(random))
+    Call::Ride(pieces, lent(random))
 }
 
 fn list(random: &mut Random) -> Vec<Call> {
@@ -198,7 +224,7 @@ fn list(random: &mut Random) -> Vec<Call> {
     let (tame, far) = (random.below(3) == 0, random.below(6) == 0);
     (0..1 + random.below(14))
         .map(|_| match random.below(10) {
-            0 => Call::Skip(if tame { [193, 193] } else { places(random) }),
+            0 => Call::Skip(if tame { EXACT } else { lent(random) }),
             1 => Call::Extend,
             2..5 => Call::Read(loop {
                 let sample = sample(random, base);
@@ -208,7 +234,7 @@ fn list(random: &mut Random) -> Vec<Call> {
             }),
             _ => match ride(random, far) {
                 Call::Ride(pieces, _) if tame => {
-                    Call::Ride(pieces.into_iter().map(|(ms, mm)| (ms % 90_000, mm % 1_000_000)).collect(), [193, 193])
+                    Call::Ride(pieces.into_iter().map(|(ms, mm)| (ms % 90_000, mm % 1_000_000)).collect(), EXACT)
                 }
                 ride => ride,
             },
@@ -223,23 +249,25 @@ fn touches() -> Vec<Call> {
 
 /// Any workout skipped to its end, and then days up to question 13 and past it.
 fn days() -> Vec<Call> {
-    let mut calls = vec![Call::Skip([193, 193]); 36];
-    calls.extend(vec![Call::Ride(vec![(43_200_000, 0), (43_200_000, 0)], [193, 193]); 8]);
+    let mut calls = vec![Call::Skip(EXACT); 36];
+    calls.extend(vec![Call::Ride(vec![(43_200_000, 0), (43_200_000, 0)], MOST); 8]);
     calls
 }
 
-/// Rides and skips with either array at question 14's limit, one below and one above.
+/// Rides and skips to the finish and past it with either array at question 14's limit, one below and one above, and empty.
 fn arrays() -> Vec<Call> {
-    let places = [[192, 193], [193, 192], [193, 193], [194, 193], [193, 194]];
-    places.into_iter().flat_map(|places| [Call::Ride(vec![(500, 0), (500, 0)], places), Call::Skip(places)]).collect()
+    let wanted = [[-1, 0], [0, -1], [1, 0], [0, 1], [0, 0]].map(Lent::Wanted);
+    let lents = [Lent::Places([0, 0]), Lent::Places([193, 0]), Lent::Places([0, 193]), MOST].into_iter().chain(wanted);
+    let calls = lents.flat_map(|lent| [Call::Ride(vec![(500, 0), (500, 0)], lent), Call::Skip(lent)]);
+    calls.collect::<Vec<_>>().repeat(12)
 }
 
 /// What each call of the cut list is refused by, a list to a call of the uncut one.
-fn feed(machine: &mut Machine, call: &Call) -> Vec<u32> {
+fn feed(machine: &mut Machine, call: &Call, places: [u32; 2]) -> Vec<u32> {
     match call {
         Call::Read(sample) => vec![machine.read(*sample)],
-        Call::Ride(pieces, places) => pieces.iter().map(|&(ms, mm)| machine.ride(Piece { ms, mm }, *places)).collect(),
-        Call::Skip(places) => vec![machine.skip(*places)],
+        Call::Ride(pieces, _) => pieces.iter().map(|&(ms, mm)| machine.ride(Piece { ms, mm }, places)).collect(),
+        Call::Skip(_) => vec![machine.skip(places)],
         Call::Extend => vec![machine.extend()],
     }
 }
@@ -289,6 +317,8 @@ struct Tally {
     unrefused: u64,
     rust: u64,
     different: u64,
+    /// Rides and skips lent exactly what is wanted: before the finish, and none after it.
+    exact: [u64; 2],
     refused: [u64; 21],
     events: [u64; 4],
 }
@@ -296,19 +326,29 @@ struct Tally {
 /// What is wrong with a list, if anything is.
 fn compare(workout: &Workout, profile: TrainingProfile, calls: &[Call], tally: &mut Tally) -> Option<String> {
     let file = codec::encode(workout);
-    let cut: Vec<[u32; 8]> = calls.iter().flat_map(|call| words_of(call, &profile)).collect();
-    let answers = ours(&file, &cut);
     let mut machine = Machine::new(workout, profile);
+    let fresh = machine_words(&machine);
+    let (mut cut, mut whole_words, mut fed) = (Vec::new(), Vec::new(), Vec::new());
+    for call in calls {
+        let places = places_of(call, &machine);
+        if matches!(call, Call::Ride(..) | Call::Skip(_)) && places == [machine.places_wanted(); 2] {
+            tally.exact[usize::from(machine.finished())] += 1;
+        }
+        cut.extend(words_of(call, places, &profile));
+        whole_words.extend(words_of(&whole(call), places, &profile));
+        fed.push((feed(&mut machine, call, places), machine_words(&machine)));
+    }
+    let answers = ours(&file, &cut);
     let mut rust = player::Player::new(workout.clone());
     let (mut last, mut events, mut refused) = (Sample::default(), Vec::new(), false);
     let mut at = 0;
     tally.lists += 1;
     tally.calls += calls.len() as u64;
-    if answers[0][0] != 0 || answers[0][1..] != machine_words(&machine) {
+    if answers[0][0] != 0 || answers[0][1..] != fresh {
         return Some(format!("fresh: Rattle {:?}", answers[0]));
     }
-    for (i, call) in calls.iter().enumerate() {
-        for number in feed(&mut machine, call) {
+    for (i, (call, (numbers, words))) in calls.iter().zip(fed).enumerate() {
+        for number in numbers {
             at += 1;
             tally.pieces += 1;
             tally.refused[number as usize] += 1;
@@ -317,7 +357,6 @@ fn compare(workout: &Workout, profile: TrainingProfile, calls: &[Call], tally: &
                 return Some(format!("call {i}: refused {}, by the machine {number}", answers[at][0]));
             }
         }
-        let words = machine_words(&machine);
         if answers[at][1..] != words {
             return Some(format!("call {i}: Rattle {:?}, machine {words:?}", &answers[at][1..]));
         }
@@ -334,7 +373,6 @@ fn compare(workout: &Workout, profile: TrainingProfile, calls: &[Call], tally: &
     }
     let uncut: Vec<Call> = calls.iter().map(whole).collect();
     let fits = |call: &Call| !matches!(call, Call::Ride(pieces, _) if pieces[0].0 > u64::from(u32::MAX) || pieces[0].1 > u64::from(u32::MAX));
-    let whole_words: Vec<[u32; 8]> = uncut.iter().flat_map(|call| words_of(call, &profile)).collect();
     if uncut.iter().all(fits) && ours(&file, &whole_words).iter().all(|words| words[0] == 0) {
         tally.unrefused += 1;
         if refused {
@@ -346,9 +384,9 @@ fn compare(workout: &Workout, profile: TrainingProfile, calls: &[Call], tally: &
 
 fn whole(call: &Call) -> Call {
     match call {
-        Call::Ride(pieces, places) => {
+        Call::Ride(pieces, lent) => {
             let sum = pieces.iter().fold((0, 0), |(ms, mm), piece| (ms + piece.0, mm + piece.1));
-            Call::Ride(vec![sum], *places)
+            Call::Ride(vec![sum], *lent)
         }
         call => call.clone(),
     }
@@ -366,7 +404,7 @@ fn main() {
         let calls = match i {
             0..8 => touches(),
             8 => days(),
-            9 => arrays(),
+            9..17 => arrays(),
             _ => list(&mut random),
         };
         if let Some(fault) = compare(&workout, profile, &calls, &mut tally) {
@@ -384,11 +422,14 @@ fn main() {
         "cutting: {} lists, {} calls, {} as cut; machine and Rattle, {} lists different; {} calls of the Rust's player too; {} lists with nothing refused uncut",
         tally.lists, tally.calls, tally.pieces, tally.different, tally.rust, tally.unrefused
     );
+    println!("rides and skips with exactly the places wanted, before the finish and after it: {:?}", tally.exact);
     println!("accepted, then refused by 1 to 20: {:?}", tally.refused);
     println!("events (countdown, started, finished, FTP): {:?}", tally.events);
-    let missing = [0, 11, 12, 13, 14, 15].iter().any(|&i| tally.refused[i] == 0) || tally.events[1..].contains(&0);
+    let missing = [0, 11, 12, 13, 14, 15].iter().any(|&i| tally.refused[i] == 0)
+        || tally.events[1..].contains(&0)
+        || tally.exact.contains(&0);
     if missing {
-        println!("a refusal or a kind of event wasn't met");
+        println!("a refusal, a kind of event or a call with exact arrays wasn't met");
     }
     std::process::exit((tally.different > 0 || missing).into());
 }

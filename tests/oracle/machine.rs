@@ -1,5 +1,6 @@
-//! Document 01's millisecond machine, written from its paragraph and run millisecond by millisecond. Of the Rust it takes what
-//! document 01 lets machine and player share: the played steps, the band and the heart zone.
+//! Document 01's millisecond machine, written from its paragraph, with question 14 as document 02's c amends it, and run millisecond
+//! by millisecond. Of the Rust it takes what document 01 lets machine and player share: the played steps, the band and the heart
+//! zone.
 use vana::ride::{log::Sample, zones::TrainingProfile};
 use vana::workout::model::{Intensity, Length, Metric, Step, Target, Test, Workout};
 
@@ -96,9 +97,19 @@ impl Machine {
         0
     }
 
+    /// "twice the unended steps plus one", "and none when done": what question 14 wants of each array.
+    pub fn places_wanted(&self) -> u32 {
+        if self.finished() { 0 } else { 2 * (self.steps.len() - self.position) as u32 + 1 }
+    }
+
+    /// "Question 14 now wants at least that many places in each array".
+    fn lacks_places(&self, places: [u32; 2]) -> bool {
+        places.iter().any(|&places| places < self.places_wanted())
+    }
+
     /// "Skip: unless finished, end the step, marked." Refused by 14.
     pub fn skip(&mut self, places: [u32; 2]) -> u32 {
-        if places.iter().any(|&places| places < 193) {
+        if self.lacks_places(places) {
             return 14;
         }
         if !self.finished() {
@@ -115,7 +126,7 @@ impl Machine {
         if self.total_ms + piece.ms > 604_800_000 || self.total_mm + piece.mm > 7_000_000_000 {
             return 13;
         }
-        if places.iter().any(|&places| places < 193) {
+        if self.lacks_places(places) {
             return 14;
         }
         if piece.ms > 0 {

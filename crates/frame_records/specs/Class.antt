@@ -56,8 +56,8 @@ pub record FullClass : Type 0 where
   pub wanted : map wantOf riders ≡ 200 ∷ 250 ∷ 300 ∷ 180 ∷ []
   -- 930 W wanted of 800: at 210 W they come to 800
   pub short : frameRun (askAll 800) riders .grants ≡ granted 200 ∷ granted 210 ∷ granted 210 ∷ granted 180 ∷ []
-  -- bike 2 skips its only step and is finished: its watts go to the others
-  pub finished : frameRun (call 2 (skip 193 193) ∷ askAll 800) riders .grants ≡ granted 200 ∷ granted 250 ∷ granted 0 ∷ granted 180 ∷ []
+  -- bike 2 skips its only step, lent the three places that question 14 wants, and is finished: its watts go to the others
+  pub finished : frameRun (call 2 (skip 3 3) ∷ askAll 800) riders .grants ≡ granted 200 ∷ granted 250 ∷ granted 0 ∷ granted 180 ∷ []
   -- a power band of each kind, and steps without one
   pub power-bands : map wantOf (bikeOf 200 (Time 9) (Ftp 50 75) ∷ bikeOf 200 (Time 9) (Watts 100 140) ∷ bikeOf 200 Open (Ramp 100 20 60) ∷ bikeOf 200 Open (FtpRamp 50 5 60) ∷ [])
       ≡ 150 ∷ 140 ∷ 110 ∷ 110 ∷ []

@@ -25,7 +25,7 @@ use Rattle.state.specs.declared.Lap.{Lap}
 use Rattle.state.specs.declared.Core.{Core}
 use Rattle.state.specs.declared.Part.{Part}
 use Rattle.state.specs.declared.Player.{Player}
-use Rattle.state.specs.State.{untilEnd, durationMs, readCore}
+use Rattle.state.specs.State.{untilEnd, durationMs, eventPlaces, readCore}
 use Rattle.step_end.specs.StepEnd.{dueAt, countdownAt, countdownsTo, countdownsOf, isOver, nextOf}
 use Rattle.standing.specs.Standing.{standingOf, cadenceIn}
 use Rattle.standing.specs.Facts.{Stands}
@@ -135,7 +135,7 @@ module _ (w : Workout) (p : TrainingProfile) where
 -- The calls.
 
 none : (p : Player) → Few p []
-none p = record { steps = omega arith; finished = λ _. refl; places = omega arith }
+none p = record { steps = omega arith; finished = λ _. refl; wanted = omega arith; places = omega arith }
 
 eventless-few : (p : Player) (a : Answer) (o : Called) → eventless a p ≡ o → Few p (o .events)
 eventless-few p a o e = subst (λ (o : Called). Few p (o .events)) e (none p)
@@ -147,10 +147,15 @@ nothing : (es : List Event) → length es ≤ 0 → es ≡ []
 nothing [] h = refl
 nothing (e ∷ es) h = absurd (omega (arith, h))
 
+-- no more than is wanted
+few-wanted : (done : Bool) (bound n : ℕ) → n ≤ bound → (done ≡ true → n ≡ 0) → n ≤ cond done 0 bound
+few-wanted true bound n h z = omega (arith, z refl)
+few-wanted false bound n h z = h
+
 -- a ride that is taken
-rode-few : (p : Player) (c : Core) (ms mm : ℕ) (f : TrainingProfile) (k v : ℕ) → c .position ≡ p .core .position → c .done ≡ p .core .done → PowerIn c
+rode-few : (p : Player) (c : Core) (ms mm : ℕ) (f : TrainingProfile) (k v : ℕ) → c .position ≡ p .core .position → c .steps ≡ p .core .steps → c .done ≡ p .core .done → PowerIn c
     → Supposes (p .workout) c ms mm k v → Few p (rounds (p .workout) f 97 ms mm (riding (totalled ms mm c) (p .minute)) .events)
-rode-few p c ms mm f k v at-c done-c power s =
+rode-few p c ms mm f k v at-c steps-c done-c power s =
     let w = p .workout in
     let few : playedLen w ≤ 96 = passes w (s .stands .within .valid) .most in
     let bound : ℕ = 2 * (playedLen w - c .position) + 1 in
@@ -159,6 +164,9 @@ rode-few p c ms mm f k v at-c done-c power s =
     record {
       steps = omega (arith, h, under, at-c);
       finished = λ d. nothing _ (omega (arith, h, when-done (c .done) ms bound (done-c ∙ d)));
+      wanted =
+          few-wanted (p .core .done) (2 * (p .core .steps - p .core .position) + 1) _ (omega (arith, h, under, at-c, steps-c, s .stands .within .steps))
+          (λ d. omega (arith, h, when-done (c .done) ms bound (done-c ∙ d)));
       places = omega (arith, h, under, few);
     }
 
@@ -169,7 +177,7 @@ module _ (p : Player) (ms mm : ℕ) (f : TrainingProfile) (k v : ℕ) (fits : Pl
     where
       at : (t : Bool) → Few p (rideBy t p (rounds (p .workout) f 97 ms mm (riding (totalled ms mm (p .core)) (p .minute))) .events)
       at true = none p
-      at false = rode-few p (p .core) ms mm f k v refl refl (fits .power) s
+      at false = rode-few p (p .core) ms mm f k v refl refl refl (fits .power) s
 
   ride-few : Few p (rideOf p ms mm f k v .events)
   ride-few = at (standingOf p) refl (profileOk f) refl (updateAnswer (p .core) ms mm k v) refl
@@ -189,7 +197,7 @@ module _ (p : Player) (ms mm : ℕ) (f : TrainingProfile) (k v : ℕ) (fits : Pl
         at : (t : Bool)
             → Few p (cond t (eventless Accepted p) (rideBy t (withCore (readCore sample (p .core)) p) (rounds (p .workout) f 97 ms mm (riding (totalled ms mm (readCore sample (p .core))) (p .minute)))) .events)
         at true = none p
-        at false = rode-few p (readCore sample (p .core)) ms mm f k v refl refl power (read-supposes (p .workout) (p .core) sample ms mm k v s c)
+        at false = rode-few p (readCore sample (p .core)) ms mm f k v refl refl refl power (read-supposes (p .workout) (p .core) sample ms mm k v s c)
 
     add-few : Few p (addOf p ms mm sample f k v .events)
     add-few = at (standingOf p) refl (profileOk f) refl (cadenceIn (sample .«cadence_tenths»)) refl (updateAnswer (p .core) ms mm k v) refl
@@ -219,6 +227,9 @@ module _ (p : Player) (k v : ℕ) where
           record {
             steps = omega (arith, few, here);
             finished = λ z. absurd (never (sym d ∙ z));
+            wanted =
+                few-wanted (p .core .done) (2 * (p .core .steps - p .core .position) + 1) _ (omega (arith, few, here, known p e .core .within .steps))
+                (λ z. absurd (never (sym d ∙ z)));
             places = omega (arith, few);
           }
 

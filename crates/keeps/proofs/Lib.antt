@@ -3,4 +3,5 @@ pub mod Rides
 pub mod Calls
 pub mod Fresh
 pub mod Few
+pub mod Places
 pub mod Fits

@@ -1,2 +1,3 @@
 pub mod Keeps
 pub mod Few
+pub mod Places

@@ -3,7 +3,7 @@ use mathlib.Core.Path.{_≡_, refl, sym, ap, ap₂, _∙_, subst}
 use mathlib.Core.Bool.{Bool, true, false, cond, _&&_}
 use mathlib.Core.Option.{Option, none, some}
 use mathlib.Core.List.{List, _++_, append-nil}
-use Prim.Native.Nat.{ℕ, _+_, _≤_}
+use Prim.Native.Nat.{ℕ, _+_, _-_, _*_, _≤_}
 use native.Mathlib.Omega.{arith}
 use lib.Dec.{leb, eqb}
 use borrow.Author.Tests.{eqb-true}
@@ -18,23 +18,25 @@ use Rattle.model.specs.declared.Length.{Length}
 use Rattle.model.specs.declared.Length.the-variants.{Time, Distance, Open}
 use Rattle.model.specs.declared.Step.{Step}
 use Rattle.model.specs.declared.Workout.{Workout}
+use Rattle.order.specs.Order.{playedLen}
 use Rattle.power.specs.declared.ReadingOption.{ReadingOption}
 use Rattle.power.specs.declared.ReadingOption.the-variants.{None, Some}
 use Rattle.readings.specs.declared.Sample.{Sample}
 use Rattle.readings.specs.Readings.{taken}
 use Rattle.events.specs.Events.{Event}
 use Rattle.state.specs.declared.Player.{Player}
-use Rattle.state.specs.State.{readCore}
+use Rattle.state.specs.State.{eventPlaces, readCore}
 use Rattle.step_end.specs.StepEnd.{nextOf}
 use Rattle.rounds.specs.Rounds.{Riding, riding, Rode, ridingOf, rounds}
 use Rattle.standing.specs.Standing.{standingOf, cadenceIn}
+use Rattle.standing.proofs.Known.{known}
 use Rattle.player.specs.Calls as player
 use Rattle.outcomes.specs.Outcomes.{Called, eventless, playerOf, withCore, totalled, notExtended, longerCore, notLonger, extendedBy, longerBy, extendCore, extendBy}
 use Rattle.updates.specs.Updates.{rideBy, rideNow, skipTo, skipNow}
 use Rattle.player.specs.Calls.{answered, updateAnswer, rideAnswer, rideOf, readAnswer, readBy, readOf, skipAnswer, skipOf, extendNow, extendOf}
-use Rattle.machine.specs.Machine.{Machine, stepAt, reading, extraIn, extraAfter, withExtra, skipped, milliseconds}
+use Rattle.machine.specs.Machine.{Machine, isNone, stepAt, isFinished, reading, extraIn, extraAfter, withExtra, skipped, milliseconds}
 use Rattle.machine.specs.Cutting.{read, skip, extend, Piece}
-use Rattle.machine.specs.Runs.{ofRead, ofExtend, called, Totals, Progress, cadenceOk, readAsks, pieceOk, placesOk, pieceAsks, skipAsks, extraAsks, extendAsks, unlessRefused, withPiece, afterPiece, afterCall}
+use Rattle.machine.specs.Runs.{ofRead, ofExtend, called, Totals, Progress, cadenceOk, readAsks, pieceOk, placesWanted, placesOk, pieceAsks, skipAsks, extraAsks, extendAsks, unlessRefused, withPiece, afterPiece, afterCall}
 use Rattle.machine.specs.ThirdDemand.{compared}
 use Rattle.machine.proofs.Average.{added-is}
 use Rattle.machine.proofs.AtOnce.{Before}
@@ -72,8 +74,20 @@ module _ (w : Workout) (p : TrainingProfile) (T : Held w) (ok : profileOk p ≡ 
     x = riding (q .core) (q .minute)
 
     -- question 14 wants as many places of both
+
+    done-is : (o : Option Step) → Now o (q .core) m → q .core .done ≡ isNone o
+    done-is none n = n .0
+    done-is (some t) n = n .done
+
+    wanted-are : eventPlaces (q .core) ≡ placesWanted w m
+    unfolding isFinished
+    wanted-are =
+        let steps : q .core .steps ≡ playedLen w = known q st .core .within .steps ∙ ap playedLen (R .workout) in
+        ap₂ (λ (a b : ℕ). cond (q .core .done) 0 (2 * (a - b) + 1)) steps (R .alike .matches .position)
+        ∙ ap (λ (t : Bool). cond t 0 (2 * (playedLen w - m .step .position) + 1)) (done-is (stepAt w (m .step .position)) (R .alike .now))
+
     places-are : (kinds values : ℕ) → player.placesOk (q .core) kinds values ≡ placesOk w m kinds values
-    places-are kinds values = refl
+    places-are kinds values = ap (λ (n : ℕ). leb n kinds && leb n values) wanted-are
 
     -- Read.
 

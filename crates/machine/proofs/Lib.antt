@@ -9,6 +9,7 @@ pub mod Loop
 pub mod Scope
 pub mod Calls
 pub mod Lists
+pub mod Places
 pub mod Unrefused
 pub mod Demand
 pub mod Samples

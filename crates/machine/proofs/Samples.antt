@@ -50,4 +50,5 @@ samples-are =
       longer = refl;
       refused = refl;
       ridden = refl;
+      places = refl;
     }

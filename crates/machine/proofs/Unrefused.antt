@@ -22,6 +22,7 @@ use Rattle.machine.specs.Cutting.{Call, read, ride, skip, extend, Piece,
 use Rattle.machine.specs.Runs.{Totals, Progress, readAsks, pieceOk, totalsOk, placesOk, pieceAsks, skipAsks, extraAsks, extendAsks, unlessRefused, withPiece, afterPiece, afterPieces, afterCall, piecesAsk, callAsks, callsAsk}
 use Rattle.machine.specs.ThirdDemand.{AllAccepted}
 use Rattle.machine.proofs.AtOnce.{milliseconds-add}
+use Rattle.machine.proofs.Places.{places-later}
 
 -- A list as it stands.
 
@@ -111,10 +112,6 @@ module _ (w : Workout) (p : TrainingProfile) where
       (and-both (le-leb (s .totals .ms + e .ms) 604800000 (P .sum-ms)) (le-leb (s .totals .mm + e .mm) 7000000000 (P .sum-mm)))
       ∙ ap (λ (b : Bool). ask b refusals.EventPlaces Accepted) (P .places)
 
-  -- riding on, the machine never wants more places
-  places-later : (n kinds values : ℕ) (m : Machine) → placesOk w m kinds values ≡ true → placesOk w (milliseconds w p n m) kinds values ≡ true
-  places-later n kinds values m h = h
-
   taken-piece : (kinds values : ℕ) (s : Progress) (e : Piece) → pieceAsks w kinds values s e ≡ Accepted
       → afterPiece w p (pieceAsks w kinds values s e) e s ≡ record { machine = milliseconds w p (e .ms) (s .machine); totals = withPiece e (s .totals) }
   unfolding afterPiece
@@ -139,7 +136,7 @@ module _ (w : Workout) (p : TrainingProfile) where
       let g : AtMost (s' .totals) (record { ms = s .totals .ms + e .ms; mm = s .totals .mm + e .mm }) =
       subst (λ (x : Progress). AtMost (x .totals) (record { ms = s .totals .ms + e .ms; mm = s .totals .mm + e .mm })) (sym q) (with-most e (s .totals)) in
       let rest : AllTaken kinds values es s' =
-      pieces-taken kinds values es s' (subst (λ (x : Progress). placesOk w (x .machine) kinds values ≡ true) (sym q) (places-later (e .ms) kinds values (s .machine) places))
+      pieces-taken kinds values es s' (subst (λ (x : Progress). placesOk w (x .machine) kinds values ≡ true) (sym q) (places-later w p (e .ms) kinds values (s .machine) places))
       (omega arith) (omega arith) (omega (arith, g .ms)) (omega (arith, g .mm)) in
       record {
         answers = (a, rest .answers);

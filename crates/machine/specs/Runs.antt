@@ -3,7 +3,7 @@
 use mathlib.Core.Bool.{Bool, true, cond, _&&_}
 use mathlib.Core.Option.{Option, none, some}
 use mathlib.Core.List.{List, [], _∷_, _++_}
-use Prim.Native.Nat.{ℕ, _+_}
+use Prim.Native.Nat.{ℕ, _+_, _-_, _*_}
 use lib.Dec.{leb, eqb}
 use Rattle.refusal.specs.declared.Answer.{Answer}
 use Rattle.refusal.specs.declared.Answer.the-variants.{Accepted, Refused}
@@ -11,6 +11,7 @@ use Rattle.refusal.specs.declared.Refusal.the-variants as refusals
 use Rattle.refusal.specs.Number.{ask}
 use Rattle.zones.specs.declared.TrainingProfile.{TrainingProfile}
 use Rattle.model.specs.declared.Workout.{Workout}
+use Rattle.order.specs.Order.{playedLen}
 use Rattle.power.specs.declared.ReadingOption.{ReadingOption}
 use Rattle.power.specs.declared.ReadingOption.the-variants.{None, Some}
 use Rattle.readings.specs.declared.Sample.{Sample}
@@ -20,7 +21,7 @@ use Rattle.outcomes.specs.declared.Update.{Update}
 use Rattle.outcomes.specs.declared.Extended.{Extended}
 use Rattle.outcomes.specs.Outcomes.{Called}
 use Rattle.player.specs.Calls.{readOf, rideOf, skipOf, extendOf}
-use Rattle.machine.specs.Machine.{Machine, start, stepAt, reading, extraAfter, withExtra, skipped, milliseconds}
+use Rattle.machine.specs.Machine.{Machine, start, stepAt, isFinished, reading, extraAfter, withExtra, skipped, milliseconds}
 use Rattle.machine.specs.Cutting.{Call, read, ride, skip, extend, Piece, CutCall}
 
 -- The player.
@@ -88,11 +89,11 @@ pieceOk q = leb (q .ms) 86400000 && leb (q .mm) 1000000000
 abbrev pub totalsOk : Totals → Piece → Bool
 totalsOk t q = leb (t .ms + q .ms) 604800000 && leb (t .mm + q .mm) 7000000000
 
--- The places that a ride or a skip wants.
+-- Document 02, c: "twice the unended steps plus one", "and none when done".
 abbrev pub placesWanted : Workout → Machine → ℕ
-placesWanted w m = 193
+placesWanted w m = cond (isFinished w m) 0 (2 * (playedLen w - m .step .position) + 1)
 
--- "both arrays of 193 places or more? 14"
+-- "Question 14 now wants at least that many places in each array": of the machine's state at each piece of a ride, and at a skip
 abbrev pub placesOk : Workout → Machine → ℕ → ℕ → Bool
 placesOk w m kinds values = leb (placesWanted w m) kinds && leb (placesWanted w m) values
 

@@ -113,7 +113,7 @@ pub record Samples : Type 0 where
   pub not-refused : AllAccepted (callsAsk single profile cutOnce begun) × AllAccepted (callsAsk single profile cutAgain begun)
   pub as-it-stands : AllAccepted (callsAsk single profile (alone (uncut cutOnce)) begun)
   -- a player's call that is refused
-  pub skip-refused : called profile (skip 193 192) (newOf single .player) .answer ≡ Refused refusals.EventPlaces
+  pub skip-refused : called profile (skip 3 2) (newOf single .player) .answer ≡ Refused refusals.EventPlaces
   -- "Readings 100, 101: 101.", and of three; one that is absent counts for nothing
   pub two : readingFor metrics.Power (watts (Some 101) ∷ watts (Some 100) ∷ []) ≡ Some 101
   pub three : readingFor metrics.Power (watts (Some 101) ∷ watts (Some 101) ∷ watts (Some 100) ∷ []) ≡ Some 101
@@ -151,6 +151,9 @@ pub record Samples : Type 0 where
   -- 60 s more
   pub longer : after single (other extend ∷ rideIn 3000 1500 1500 ∷ []) .step .time ≡ 3000
   -- a piece is refused 12, a skip without places 14, and neither does anything
-  pub refused : callsAsk single profile (tooFar ∷ other (skip 193 192) ∷ []) begun
+  pub refused : callsAsk single profile (tooFar ∷ other (skip 3 2) ∷ []) begun
       ≡ Refused refusals.Update ∷ Accepted ∷ Refused refusals.EventPlaces ∷ []
-  pub ridden : after single (tooFar ∷ other (skip 193 192) ∷ []) .step .time ≡ 500
+  pub ridden : after single (tooFar ∷ other (skip 3 2) ∷ []) .step .time ≡ 500
+  -- two steps want five places in each array, the second alone three, and a finished workout none
+  pub places : callsAsk (pair tests.None) profile (other (skip 4 5) ∷ other (skip 5 4) ∷ other (skip 5 5) ∷ other (skip 3 2) ∷ other (skip 3 3) ∷ other (skip 0 0) ∷ []) begun
+      ≡ Refused refusals.EventPlaces ∷ Refused refusals.EventPlaces ∷ Accepted ∷ Refused refusals.EventPlaces ∷ Accepted ∷ Accepted ∷ []

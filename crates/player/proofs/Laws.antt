@@ -1,11 +1,11 @@
 -- The calls with their questions, outcome by outcome.
 use mathlib.Core.Path.{_≡_, refl, sym, ap, subst, _∙_}
 use mathlib.Core.Bool.{Bool, true, false, _&&_}
-use Prim.Native.Nat.{ℕ, _+_, _≤_, _<_}
+use Prim.Native.Nat.{ℕ, _+_, _≤_}
 use native.Mathlib.Omega.{arith}
 use lib.Dec.{leb}
-use borrow.Author.Tests.{leb-true, le-leb, lt-leb}
-use Rattle.validation.proofs.Passes.{ask-left, ask-right}
+use borrow.Author.Tests.{leb-true}
+use Rattle.validation.proofs.Passes.{ask-left, ask-right, passes}
 use Rattle.common.proofs.Tests.{and-left, and-right}
 use Rattle.refusal.specs.declared.Answer.{Answer}
 use Rattle.refusal.specs.declared.Answer.the-variants.{Accepted, Refused}
@@ -21,7 +21,7 @@ use Rattle.state.specs.declared.Player.{Player}
 use Rattle.standing.specs.Standing.{standingOf, belowEnd, lapOk, cadenceIn}
 use Rattle.standing.specs.Facts.{Stands}
 use Rattle.standing.proofs.Known.{known}
-use Rattle.state.specs.State.{updateOk}
+use Rattle.state.specs.State.{eventPlaces, updateOk}
 use Rattle.outcomes.specs.Outcomes.{ExtraFits, eventless}
 use Rattle.updates.specs.Updates.{Supposes, addNow, rideNow, skipNow}
 use Rattle.player.specs.Calls.{answered, addAnswer, addOf, totalsWith, placesOk, updateAnswer, rideAnswer, rideOf, skipAnswer, skipOf}
@@ -33,6 +33,20 @@ sound-yes ok r e = sym (ask-left ok r Accepted e)
 pub sound-no : (ok : Bool) (r s : Refusal) → ask ok r Accepted ≡ Refused s → false ≡ ok
 sound-no false r s e = refl
 sound-no true r s e = absurd (let z : _≡_ {A = ℕ} 0 1 = cc in omega arith)
+
+-- a player that stands has few steps
+pub few-steps : (p : Player) → standingOf p ≡ true → p .core .steps ≤ 96
+few-steps p e = let h = known p e .core .within in omega (arith, h .steps, passes (p .workout) (h .valid) .most)
+
+-- what `update_answer` supposes
+pub asked-fits : (p : Player) → standingOf p ≡ true → (p .core .«total_ms» .0 ≤ 604800000) × (p .core .«total_mm» .0 ≤ 7000000000) × (p .core .steps ≤ 96)
+asked-fits p e = let h = known p e .core .within in (h .total-ms, h .total-mm, few-steps p e)
+
+-- what passing question 14 says
+pub places-enough : (c : Core) (k v : ℕ) → placesOk c k v ≡ true → (eventPlaces c ≤ k) × (eventPlaces c ≤ v)
+places-enough c k v e =
+    let n : ℕ = eventPlaces c in
+    (leb-true n k (and-left (leb n k) (leb n v) e), leb-true n v (and-right (leb n k) (leb n v) e))
 
 -- what passing questions 12 to 14 says
 pub update-passed : (w : Workout) (c : Core) (ms mm k v : ℕ) → Stands 0 0 w c → updateAnswer c ms mm k v ≡ Accepted → Supposes w c ms mm k v
@@ -51,8 +65,8 @@ update-passed w c ms mm k v h e =
       mm-in = leb-true mm 1000000000 (and-right (leb ms 86400000) (leb mm 1000000000) a);
       total-ms = leb-true (c .«total_ms» .0 + ms) 604800000 (and-left (leb (c .«total_ms» .0 + ms) 604800000) (leb (c .«total_mm» .0 + mm) 7000000000) b);
       total-mm = leb-true (c .«total_mm» .0 + mm) 7000000000 (and-right (leb (c .«total_ms» .0 + ms) 604800000) (leb (c .«total_mm» .0 + mm) 7000000000) b);
-      kinds-in = leb-true 193 k (and-left (leb 193 k) (leb 193 v) d);
-      values-in = leb-true 193 v (and-right (leb 193 k) (leb 193 v) d);
+      kinds-in = places-enough c k v d .0;
+      values-in = places-enough c k v d .1;
     }
 
 module _ (p : Player) (ms mm : ℕ) (f : TrainingProfile) (k v : ℕ) where
@@ -94,8 +108,8 @@ module _ (p : Player) (k v : ℕ) where
   skip-taken e g = sym (skip-past e ∙ ap (λ (b : Bool). answered (ask b refusals.EventPlaces Accepted) p (skipNow p)) g)
 
 -- a skip supposes nothing of an update
-pub skip-supposes : (p : Player) (k v : ℕ) → standingOf p ≡ true → 193 ≤ k → 193 ≤ v → Supposes (p .workout) (p .core) 0 0 k v
-skip-supposes p k v e a b =
+pub skip-supposes : (p : Player) (k v : ℕ) → standingOf p ≡ true → placesOk (p .core) k v ≡ true → Supposes (p .workout) (p .core) 0 0 k v
+skip-supposes p k v e g =
     let h : Stands 0 0 (p .workout) (p .core) = known p e .core in
     record {
       stands = h;
@@ -103,20 +117,9 @@ skip-supposes p k v e a b =
       mm-in = omega arith;
       total-ms = omega (arith, h .within .total-ms);
       total-mm = omega (arith, h .within .total-mm);
-      kinds-in = a;
-      values-in = b;
+      kinds-in = places-enough (p .core) k v g .0;
+      values-in = places-enough (p .core) k v g .1;
     }
-
--- question 14
-module _ (c : Core) (k v : ℕ) where
-  pub few-kinds : k < 193 → placesOk c k v ≡ false
-  few-kinds h = rw (lt-leb 193 k h)
-
-  pub few-values : 193 ≤ k → v < 193 → placesOk c k v ≡ false
-  few-values a h = rw (le-leb 193 k a, lt-leb 193 v h)
-
-  pub enough-places : 193 ≤ k → 193 ≤ v → placesOk c k v ≡ true
-  enough-places a b = rw (le-leb 193 k a, le-leb 193 v b)
 
 -- what a touch supposes
 pub extra-fits : (p : Player) → standingOf p ≡ true → p .core .done ≡ false → ExtraFits (p .core) 60 500

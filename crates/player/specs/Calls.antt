@@ -11,7 +11,7 @@ use Rattle.zones.specs.Zones.{profileOk}
 use Rattle.readings.specs.declared.Sample.{Sample}
 use Rattle.state.specs.declared.Core.{Core}
 use Rattle.state.specs.declared.Player.{Player}
-use Rattle.state.specs.State.{readCore, updateOk}
+use Rattle.state.specs.State.{eventPlaces, readCore, updateOk}
 use Rattle.standing.specs.Standing.{standingOf, cadenceIn}
 use Rattle.outcomes.specs.declared.Update.{Update}
 use Rattle.outcomes.specs.declared.Extended.{Extended}
@@ -29,13 +29,9 @@ answered (Refused refusal) p o = eventless (Refused refusal) p
 abbrev pub totalsWith : Core → ℕ → ℕ → Bool
 totalsWith c ms mm = leb (c .«total_ms» .0 + ms) 604800000 && leb (c .«total_mm» .0 + mm) 7000000000
 
--- The places that an update or a skip wants: as many as the most events of one.
-abbrev pub placesFor : Core → ℕ
-placesFor c = 193
-
--- "both arrays of 193 places or more? 14"
+-- "Question 14 now wants at least that many places in each array, and none when done." (document 02, c; it was "193 places or more")
 abbrev pub placesOk : Core → ℕ → ℕ → Bool
-placesOk c kinds values = leb (placesFor c) kinds && leb (placesFor c) values
+placesOk c kinds values = leb (eventPlaces c) kinds && leb (eventPlaces c) values
 
 unfoldable pub updateAnswer : Core → ℕ → ℕ → ℕ → ℕ → Answer
 updateAnswer c ms mm kinds values =

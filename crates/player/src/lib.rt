@@ -5,7 +5,7 @@ ghost use Prim.Native.Nat.{_≤_};
 ghost use lib.ListN.{length};
 ghost use Rattle.zones.specs.Zones.{profileOk};
 ghost use Rattle.outcomes.specs.Outcomes.{Answers};
-ghost use Rattle.player.specs.Calls.{updateAnswer, rideOf, readOf, skipOf, extendOf, addOf};
+ghost use Rattle.player.specs.Calls.{placesOk, updateAnswer, rideOf, readOf, skipOf, extendOf, addOf};
 use outcomes::Extended;
 use outcomes::Update;
 use outcomes::extend_by;
@@ -41,9 +41,18 @@ fn is_sound(profile: TrainingProfile) -> bool
     }
 }
 
-// Questions 12 to 14, of a core whose totals are within their limits.
+// Question 14.
+fn places_ok(core: Core, kinds: usize, values: usize) -> bool
+    requires { ⌜ core .steps ≤ 96 ⌝ }
+    ensures { λ r. ⌜ r ≡ placesOk core kinds values ⌝ }
+{
+    let places = core.event_places();
+    (places <= kinds) & (places <= values)
+}
+
+// Questions 12 to 14, of a core whose totals and steps are within their limits.
 pub fn update_answer(core: Core, ms: Ms, mm: Mm, kinds: usize, values: usize) -> Answer
-    requires { ⌜ (core .«total_ms» .0 ≤ 604800000) × (core .«total_mm» .0 ≤ 7000000000) ⌝ }
+    requires { ⌜ (core .«total_ms» .0 ≤ 604800000) × (core .«total_mm» .0 ≤ 7000000000) × (core .steps ≤ 96) ⌝ }
     ensures { λ r. ⌜ r ≡ updateAnswer core (ms .0) (mm .0) kinds values ⌝ }
 {
     if 86400000 < ms.0 {
@@ -58,10 +67,7 @@ pub fn update_answer(core: Core, ms: Ms, mm: Mm, kinds: usize, values: usize) ->
     if 7000000000 < core.total_mm.0 + mm.0 {
         return Answer::Refused(Refusal::Totals);
     }
-    if kinds < 193 {
-        return Answer::Refused(Refusal::EventPlaces);
-    }
-    if values < 193 {
+    if !places_ok(core, kinds, values) {
         return Answer::Refused(Refusal::EventPlaces);
     }
     Answer::Accepted
@@ -139,13 +145,11 @@ pub fn add(
 pub fn skip(player: Player, kinds: &mut [u8], values: &mut [u16]) -> Update
     ensures { λ r. ⌜ Answers (now (kinds .entry)) (now (values .entry)) (now (kinds .exit)) (now (values .exit)) r (skipOf player (length (now (kinds .entry))) (length (now (values .entry)))) ⌝ }
 {
+    let core = player.core;
     if !is_standing(player) {
         return plain(player, Answer::Refused(Refusal::Standing));
     }
-    if kinds.len() < 193 {
-        return plain(player, Answer::Refused(Refusal::EventPlaces));
-    }
-    if values.len() < 193 {
+    if !places_ok(core, kinds.len(), values.len()) {
         return plain(player, Answer::Refused(Refusal::EventPlaces));
     }
     skip_now(player, kinds, values)

@@ -37,6 +37,7 @@ use Rattle.player.specs.Calls.{readBy, readAnswer, readOf, updateAnswer, extend
 use Rattle.player.proofs.Laws.{ride-refused, ride-taken, skip-taken, extra-fits}
 use Rattle.keeps.specs.Keeps.{PowerFits, PlayerFits}
 use Rattle.keeps.proofs.Fresh.{keeps-standing}
+use Rattle.keeps.proofs.Places.{passes-193}
 use Rattle.machine.specs.Cutting.{read, ride, skip, extend}
 use Rattle.machine.specs.Runs.{ofRead, ofExtend, called}
 use Rattle.sheet.specs.declared.Act.{Act}
@@ -124,7 +125,7 @@ module _ (w : Workout) (c : Core) (m ks vs : List ℕ) where
     pub skip-acts : (ks' vs' : List ℕ) (r : Acted) → Skips ks vs ks' vs' r (skipOutcome w c) → Acts w m ks vs ks' vs' r (called p (skip 193 193) P)
     unfolding called skipNow
     skip-acts ks' vs' r s =
-        subst (λ (o : Called). Acts w m ks vs ks' vs' r o) (skip-taken P 193 193 e refl) (skips-by (c .done) ks' vs' r s)
+        subst (λ (o : Called). Acts w m ks vs ks' vs' r o) (skip-taken P 193 193 e (passes-193 P e)) (skips-by (c .done) ks' vs' r s)
 
     module _ (g : profileOk p ≡ true) (ms mm : ℕ) where
       pub refused-acts : (refusal : Refusal) (r : Acted) → updateAnswer c ms mm 193 193 ≡ Refused refusal → r ≡ eventlessAct (Refused refusal) c

@@ -30,7 +30,7 @@ use Rattle.sheet.specs.Sheet.{acceptedAll}
 use Rattle.replay.specs.declared.Acted.{Acted}
 use Rattle.replay.specs.declared.Ridden.{Ridden}
 
--- The places of the replay's own event arrays: "both arrays of 193 places or more".
+-- The places of the replay's own event arrays: as many as any player's update can want.
 abbrev pub places : ℕ
 places = 193
 

@@ -9,7 +9,7 @@ use Rattle.refusal.specs.Number.{ask}
 use Rattle.zones.specs.declared.TrainingProfile.{TrainingProfile}
 use Rattle.zones.specs.Zones.{profileAnswer}
 use Rattle.state.specs.declared.Player.{Player}
-use Rattle.state.specs.State.{part, untilEnd, updateOk}
+use Rattle.state.specs.State.{part, untilEnd, updateOk, eventPlaces}
 use Rattle.standing.specs.Standing.{standingOf}
 use Rattle.screen.specs.declared.SecsOption.the-variants as seconds
 use Rattle.start.specs.Start.{noSummary}
@@ -19,6 +19,7 @@ use Rattle.reports.specs.declared.RemainingRead.{RemainingRead}
 use Rattle.reports.specs.declared.DistanceRead.{DistanceRead}
 use Rattle.reports.specs.declared.PartRead.{PartRead}
 use Rattle.reports.specs.declared.NowRead.{NowRead}
+use Rattle.reports.specs.declared.PlacesRead.{PlacesRead}
 
 abbrev pub standingAnswer : Player → Answer
 standingAnswer p = ask (standingOf p) refusals.Standing Accepted
@@ -51,6 +52,14 @@ untilBy p ms mm (Refused refusal) = record { answer = Refused refusal; part = pa
 
 unfoldable pub untilOf : Player → ℕ → ℕ → PartRead
 untilOf p ms mm = untilBy p ms mm (ask (standingOf p) refusals.Standing (ask (updateOk ms mm) refusals.Update Accepted))
+
+-- Added for document 02, c: how many places to lend, what question 14 of the next update will want of each array.
+abbrev pub placesBy : Player → Answer → PlacesRead
+placesBy p Accepted = record { answer = Accepted; places = eventPlaces (p .core) }
+placesBy p (Refused refusal) = record { answer = Refused refusal; places = 0 }
+
+unfoldable pub placesOf : Player → PlacesRead
+placesOf p = placesBy p (standingAnswer p)
 
 abbrev pub nowBy : Player → TrainingProfile → Answer → NowRead
 nowBy p profile Accepted = record { answer = Accepted; now = nowIn p profile }

@@ -3,7 +3,7 @@ ghost use mathlib.Core.Path.{_≡_};
 ghost use Rattle.refusal.specs.declared.Answer.the-variants.{Refused};
 ghost use Rattle.state.specs.State.{part};
 ghost use Rattle.screen.specs.Screen.{noNow};
-ghost use Rattle.reports.specs.Reports.{summaryOf, remainingSecs, distanceOf, untilOf, nowOf};
+ghost use Rattle.reports.specs.Reports.{summaryOf, remainingSecs, distanceOf, untilOf, placesOf, nowOf};
 use model::BandOption;
 use order::NO_PLAYED;
 use order::PlayedOption;
@@ -45,6 +45,11 @@ pub struct DistanceRead {
 pub struct PartRead {
     pub answer: Answer,
     pub part: Part,
+}
+
+pub struct PlacesRead {
+    pub answer: Answer,
+    pub places: usize,
 }
 
 pub struct NowRead {
@@ -133,6 +138,23 @@ pub fn until_end(player: Player, ms: Ms, mm: Mm) -> PartRead
         return no_part(Refusal::Update);
     }
     no_part(Refusal::Standing)
+}
+
+// How many places the next `add`, ride or skip wants in each of the two event arrays that it is lent (question 14).
+pub fn event_places(player: Player) -> PlacesRead
+    ensures { λ r. ⌜ r ≡ placesOf player ⌝ }
+{
+    if is_standing(player) {
+        let core = player.core;
+        return PlacesRead {
+            answer: Answer::Accepted,
+            places: core.event_places(),
+        };
+    }
+    PlacesRead {
+        answer: Answer::Refused(Refusal::Standing),
+        places: 0,
+    }
 }
 
 fn no_now(refusal: Refusal) -> NowRead

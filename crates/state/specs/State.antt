@@ -101,6 +101,11 @@ stepNow p =
 abbrev pub updateOk : ℕ → ℕ → Bool
 updateOk ms mm = leb ms 86400000 && leb mm 1000000000
 
+-- Document 02, c: "An update can't give more than twice the unended steps plus one event, and gives none after the finish. Question 14
+-- now wants at least that many places in each array, and none when done."
+abbrev pub eventPlaces : Core → ℕ
+eventPlaces c = cond (c .done) 0 (2 * (c .steps - c .position) + 1)
+
 -- The part of an update.
 
 abbrev pub part : ℕ → ℕ → Part

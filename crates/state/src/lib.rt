@@ -1,8 +1,9 @@
-// player.rs's state: the summary, the amounts of the step on now, the test's sums, and `until_end`, `read` and `extend` on them.
+// player.rs's state: the summary, the amounts of the step on now, the test's sums, and `until_end`, `read` and `extend` on them; and how
+// many places for events an update wants.
 // The workout and the minute's watts stand apart in `Player`, so that what a round of riding changes is small (`Core`).
 ghost use mathlib.Core.Path.{_≡_};
 ghost use Prim.Native.Nat.{_+_, _-_, _*_, _≤_, min};
-ghost use Rattle.state.specs.State.{inTargetPct, durationMs, distanceM, distanceMm, timeShare, wayShare, shareOf, untilEnd, tallied, TallyFits, readCore, extendedLap, stepNow};
+ghost use Rattle.state.specs.State.{inTargetPct, durationMs, distanceM, distanceMm, timeShare, wayShare, shareOf, untilEnd, tallied, TallyFits, eventPlaces, readCore, extendedLap, stepNow};
 use model::Intensity;
 use model::Length;
 use model::Target;
@@ -275,6 +276,21 @@ impl Core {
         let length = on.length;
         let lap = self.lap;
         share(length, lap, ms.0, mm.0)
+    }
+
+    // The places that the next update wants in each of its event arrays: two for each step that hasn't ended and one more, none once
+    // the workout is done.
+    pub fn event_places(self) -> usize
+        requires { ⌜ self .steps ≤ 96 ⌝ }
+        ensures { λ r. ⌜ r ≡ eventPlaces self ⌝ }
+    {
+        if self.done {
+            return 0;
+        }
+        if self.position < self.steps {
+            return 2 * (self.steps - self.position) + 1;
+        }
+        1
     }
 
     // Take `sample`'s readings, once per update.

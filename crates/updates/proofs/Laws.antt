@@ -2,10 +2,9 @@
 use mathlib.Core.Path.{_≡_, refl, sym, ap, subst, _∙_}
 use mathlib.Core.Bool.{Bool, true, false, cond}
 use mathlib.Core.List.{List}
-use Prim.Native.Nat.{ℕ, _+_, _≤_}
+use Prim.Native.Nat.{ℕ, _+_, _-_, _*_, _≤_}
 use native.Mathlib.Omega.{arith}
 use borrow.Author.Tests.{eq-eqb, ne-eqb}
-use Rattle.validation.proofs.Passes.{passes}
 use Rattle.refusal.specs.declared.Answer.the-variants.{Accepted}
 use Rattle.zones.specs.declared.TrainingProfile.{TrainingProfile}
 use Rattle.model.specs.declared.Workout.{Workout}
@@ -14,12 +13,12 @@ use Rattle.readings.specs.declared.Sample.{Sample}
 use Rattle.power.specs.Power.{added}
 use Rattle.readings.specs.Readings.{taken}
 use Rattle.state.specs.declared.Core.{Core}
-use Rattle.state.specs.State.{readCore}
+use Rattle.state.specs.State.{eventPlaces, readCore}
 use Rattle.state.specs.declared.Player.{Player}
 use Rattle.step_end.specs.declared.Moved.{Moved}
 use Rattle.step_end.specs.StepEnd.{Moves, nextOf}
 use Rattle.rounds.specs.declared.Ride.{Ride}
-use Rattle.rounds.specs.Rounds.{riding, rounds}
+use Rattle.rounds.specs.Rounds.{riding, isStopped, rounds}
 use Rattle.rounds.specs.Contracted.{Rides, Ridden}
 use Rattle.standing.specs.Standing.{onPlace, cadenceIn}
 use Rattle.standing.specs.Facts.{Within, Stands}
@@ -47,18 +46,27 @@ totalled-stands w c ms mm s a b =
       lap = s .lap;
     }
 
+-- the places that a core wants that isn't done
+pub going-wants : (w : Workout) (c : Core) (n : ℕ) → Stands 0 0 w c → c .done ≡ false → eventPlaces c ≤ n → 2 * (playedLen w - c .position) + 1 ≤ n
+going-wants w c n s d h =
+    let e : eventPlaces c ≡ 2 * (c .steps - c .position) + 1 = ap (λ (b : Bool). cond b 0 (2 * (c .steps - c .position) + 1)) d in
+    omega (arith, e, h, s .within .steps)
+
+not-stopped : (d : Bool) (ms : ℕ) → isStopped d ms ≡ false → d ≡ false
+not-stopped true ms e = e
+not-stopped false ms e = refl
+
 -- a ride's start
 pub start-rides : (w : Workout) (c : Core) (ms mm k v : ℕ) → Supposes w c ms mm k v
     → Rides w (begun c ms mm) k v
 start-rides w c ms mm k v s =
-    let few : playedLen w ≤ 96 = passes w (s .stands .within .valid) .most in
     record {
       stands = totalled-stands w c ms mm (s .stands) (s .total-ms) (s .total-mm);
       ms = s .ms-in;
       mm = s .mm-in;
       parts = omega arith;
-      kinds = λ _. omega (arith, s .kinds-in);
-      values = λ _. omega (arith, s .values-in);
+      kinds = λ e. omega (arith, going-wants w c k (s .stands) (not-stopped (c .done) ms e) (s .kinds-in));
+      values = λ e. omega (arith, going-wants w c v (s .stands) (not-stopped (c .done) ms e) (s .values-in));
     }
 
 module _ (p : Player) (ms mm : ℕ) (f : TrainingProfile) where

@@ -8,7 +8,7 @@ use Rattle.model.specs.declared.Workout.{Workout}
 use Rattle.readings.specs.declared.Sample.{Sample}
 use Rattle.state.specs.declared.Core.{Core}
 use Rattle.state.specs.declared.Player.{Player}
-use Rattle.state.specs.State.{readCore}
+use Rattle.state.specs.State.{eventPlaces, readCore}
 use Rattle.step_end.specs.StepEnd.{Outcome, nextOf}
 use Rattle.rounds.specs.declared.Ride.{Ride}
 use Rattle.rounds.specs.Rounds.{riding, Rode, ridingOf, rounds}
@@ -51,5 +51,5 @@ pub record Supposes (w : Workout) (c : Core) (ms mm kinds values : ℕ) : Type 0
   pub mm-in : mm ≤ 1000000000
   pub total-ms : c .«total_ms» .0 + ms ≤ 604800000
   pub total-mm : c .«total_mm» .0 + mm ≤ 7000000000
-  pub kinds-in : 193 ≤ kinds
-  pub values-in : 193 ≤ values
+  pub kinds-in : eventPlaces c ≤ kinds
+  pub values-in : eventPlaces c ≤ values

@@ -8,7 +8,7 @@ use Rattle.power.specs.Power.{orZero}
 use Rattle.state.specs.declared.Player.{Player}
 use Rattle.standing.specs.Standing.{standingOf}
 use Rattle.standing.proofs.Known.{known}
-use Rattle.player.proofs.Laws.{update-passed}
+use Rattle.player.proofs.Laws.{asked-fits, update-passed}
 use Rattle.bench.specs.Rides.{riddenOf}
 use Rattle.bench.proofs.Laws.{refused-ride, taken-ride, ridden-stands}
 use borrow.Author.Needs.{needs}
@@ -19,7 +19,7 @@ or-zero-requires : tie.Need-or-zero-requires
 or-zero-requires c κs = search needs
 
 update-answer-requires : tie.Need-update-answer-requires
-update-answer-requires c κs = let h = known (c .before .before .before .before .args .player) (c .before .before .before .before .pre) .core .within in (h .total-ms, h .total-mm)
+update-answer-requires c κs = asked-fits (c .before .before .before .before .args .player) (c .before .before .before .before .pre)
 
 enum-told : tie.Need-enum-told
 enum-told c = search needs

@@ -28,7 +28,7 @@ array-set-from-after c = search needs
 returns : tie.Need-returns
 returns c =
     let a = c .before .before .args in
-    ap (λ (b : Bike). set (a .t1) (a .bike) b) (c .skipped-bike .ensures) ∙ set-changed (afterCall (skip 193 193)) (a .t1) (a .bike) _ (omega arith)
+    ap (λ (b : Bike). set (a .t1) (a .bike) b) (c .skipped-bike .ensures) ∙ set-changed (afterCall (skip 3 3)) (a .t1) (a .bike) _ (omega arith)
 
 pub after-skip-spec : {M : Type 1} → statement M
 after-skip-spec =

@@ -1,6 +1,6 @@
 -- `add`: one case for each question that fails, and one where none does.
 use Rattle.outcomes.proofs.Laws.{answers-is, eventless-answers}
-use Rattle.player.proofs.Laws.{update-passed, add-20, add-10, add-11, add-refused, add-taken}
+use Rattle.player.proofs.Laws.{asked-fits, update-passed, add-20, add-10, add-11, add-refused, add-taken}
 use Rattle.standing.proofs.Known.{known}
 use Rattle.refusal.specs.declared.Refusal.the-variants as refusals
 use Rattle.refusal.specs.declared.Answer.the-variants.{Refused}
@@ -41,7 +41,7 @@ returns-3 c = let a = c .before .before .before .before .before .before .before 
     eventless-answers _ _ (a .player) _ _ (Refused refusals.Cadence) (c .plain3 .ensures) (add-11 (a .player) (a .ms .0) (a .mm .0) (a .sample) (a .profile) _ _ (sym (c .before .before .before .before .before .before .is-standing .ensures) ∙ not-false _ (c .before .before .before .before .before .if1 .left)) (sym (c .before .before .before .before .is-sound .ensures) ∙ not-false _ (c .before .before .before .if2 .left)) (sym (c .before .before .cadence-in .ensures) ∙ not-true _ (c .before .if3 .taken)))
 
 update-answer-requires : tie.Need-update-answer-requires
-update-answer-requires c κs = let k = known (c .before .before .before .before .before .before .before .before .before .args .player) (sym (c .before .before .before .before .before .is-standing .ensures) ∙ not-false _ (c .before .before .before .before .if1 .left)) .core .within in (k .total-ms, k .total-mm)
+update-answer-requires c κs = asked-fits (c .before .before .before .before .before .before .before .before .before .args .player) (sym (c .before .before .before .before .before .is-standing .ensures) ∙ not-false _ (c .before .before .before .before .if1 .left))
 
 enum-told : tie.Need-enum-told
 enum-told c = search needs

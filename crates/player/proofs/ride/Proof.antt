@@ -1,6 +1,6 @@
 -- `ride`: one case for each question that fails, and one where none does.
 use Rattle.outcomes.proofs.Laws.{answers-is, eventless-answers}
-use Rattle.player.proofs.Laws.{update-passed, ride-20, ride-10, ride-refused, ride-taken}
+use Rattle.player.proofs.Laws.{asked-fits, update-passed, ride-20, ride-10, ride-refused, ride-taken}
 use Rattle.standing.proofs.Known.{known}
 use Rattle.refusal.specs.declared.Refusal.the-variants as refusals
 use Rattle.refusal.specs.declared.Answer.the-variants.{Refused}
@@ -31,7 +31,7 @@ returns-2 c = let a = c .before .before .before .before .before .before .before 
     eventless-answers _ _ (a .player) _ _ (Refused refusals.Profile) (c .plain2 .ensures) (ride-10 (a .player) (a .ms .0) (a .mm .0) (a .profile) _ _ (sym (c .before .before .before .before .is-standing .ensures) ∙ not-false _ (c .before .before .before .if1 .left)) (sym (c .before .before .is-sound .ensures) ∙ not-true _ (c .before .if2 .taken)))
 
 update-answer-requires : tie.Need-update-answer-requires
-update-answer-requires c κs = let k = known (c .before .before .before .before .before .before .before .args .player) (sym (c .before .before .before .is-standing .ensures) ∙ not-false _ (c .before .before .if1 .left)) .core .within in (k .total-ms, k .total-mm)
+update-answer-requires c κs = asked-fits (c .before .before .before .before .before .before .before .args .player) (sym (c .before .before .before .is-standing .ensures) ∙ not-false _ (c .before .before .if1 .left))
 
 enum-told : tie.Need-enum-told
 enum-told c = search needs

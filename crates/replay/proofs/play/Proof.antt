@@ -7,7 +7,7 @@ use native.Mathlib.Omega.{arith}
 use lib.ListN.{length}
 use denote.Ref.{now}
 use Rattle.outcomes.specs.Outcomes.{playerOf}
-use Rattle.standing.proofs.Known.{known}
+use Rattle.player.proofs.Laws.{asked-fits}
 use Rattle.rounds.specs.Rounds.{riding}
 use Rattle.rounds.proofs.Turns.{turn-fits, end-fits, round-ended, round-left}
 use Rattle.rounds.proofs.Loop as loop
@@ -71,7 +71,7 @@ cast-t41-2 c = search needs
 
 update-answer-requires : tie.Need-update-answer-requires Inv-loop2 μ-loop2 Inv-loop μ-loop
 update-answer-requires c κs = let a = c .before .before .before .before .before .before .before .before .before .before .before .before .before .args in let l = c .before .before .before .before .before .before .before .before .loop in
-    let h = known (playerOf (a .fresh .workout) (riding (l .core) (l .minute))) (l .inv .0 .ready .stands) .core .within in (h .total-ms, h .total-mm)
+    asked-fits (playerOf (a .fresh .workout) (riding (l .core) (l .minute))) (l .inv .0 .ready .stands)
 
 enum-known-asked : tie.Need-enum-known-asked Inv-loop2 μ-loop2 Inv-loop μ-loop
 enum-known-asked c = search needs

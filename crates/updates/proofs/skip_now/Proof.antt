@@ -1,6 +1,7 @@
 -- `skip_now`: done does nothing; else the step ends.
 use Rattle.outcomes.proofs.Laws.{eventless-answers}
-use Rattle.updates.proofs.Laws.{skip-idle, skip-made}
+use Rattle.updates.proofs.Laws.{going-wants, skip-idle, skip-made}
+use Rattle.rounds.proofs.Keeps.{not-done-below}
 use Rattle.rounds.proofs.One.{next-fits}
 use Rattle.refusal.specs.declared.Answer.the-variants.{Accepted}
 use native.Mathlib.Omega.{arith}
@@ -15,7 +16,15 @@ returns : tie.Need-returns
 returns c = eventless-answers _ _ (c .before .before .before .before .before .args .player) _ _ Accepted (c .plain .ensures) (skip-idle (c .before .before .before .before .before .args .player) (c .before .if1 .taken))
 
 next-requires : tie.Need-next-requires
-next-requires c κs = (next-fits 0 0 (c .before .before .before .before .before .before .before .before .args .player .workout) (c .before .before .before .before .before .before .before .before .args .player .core) (c .before .before .before .before .before .before .before .before .pre .stands .within), omega (arith, c .before .before .before .before .before .before .before .before .pre .kinds-in), omega (arith, c .before .before .before .before .before .before .before .before .pre .values-in))
+next-requires c κs =
+    let p = c .before .before .before .before .before .before .before .before .args .player in
+    let pre = c .before .before .before .before .before .before .before .before .pre in
+    let going = c .before .before .before .before .if1 .left in
+    let below = not-done-below 0 0 (p .workout) (p .core) (pre .stands .within) going in (
+      next-fits 0 0 (p .workout) (p .core) (pre .stands .within),
+      omega (arith, below, going-wants (p .workout) (p .core) _ (pre .stands) going (pre .kinds-in)),
+      omega (arith, below, going-wants (p .workout) (p .core) _ (pre .stands) going (pre .values-in)),
+    )
 
 player-of-requires : tie.Need-player-of-requires
 player-of-requires c κs = search needs
