@@ -75,9 +75,7 @@ fn words_of(call: &Call, [kinds, values]: [u32; 2], profile: &TrainingProfile) -
             let rest = [sample.power_watts, sample.heart_bpm, sample.cadence_tenths].map(reading);
             vec![words(head(0), [0, 0], rest)]
         }
-        Call::Ride(pieces, _) => {
-            pieces.iter().map(|&(ms, mm)| words(head(1), [ms, mm], [kinds, values, 0])).collect()
-        }
+        Call::Ride(pieces, _) => pieces.iter().map(|&(ms, mm)| words(head(1), [ms, mm], [kinds, values, 0])).collect(),
         Call::Skip(_) => vec![words(head(3), [0, 0], [kinds, values, 0])],
         Call::Extend => vec![words(head(4), [0, 0], [0; 3])],
     }
@@ -258,8 +256,9 @@ fn days() -> Vec<Call> {
 fn arrays() -> Vec<Call> {
     let wanted = [[-1, 0], [0, -1], [1, 0], [0, 1], [0, 0]].map(Lent::Wanted);
     let lents = [Lent::Places([0, 0]), Lent::Places([193, 0]), Lent::Places([0, 193]), MOST].into_iter().chain(wanted);
-    let calls = lents.flat_map(|lent| [Call::Ride(vec![(500, 0), (500, 0)], lent), Call::Skip(lent)]);
-    calls.collect::<Vec<_>>().repeat(12)
+    let calls =
+        lents.flat_map(|lent| [Call::Ride(vec![(500, 0), (500, 0)], lent), Call::Skip(lent)]).collect::<Vec<_>>();
+    vec![calls; 6].concat()
 }
 
 /// What each call of the cut list is refused by, a list to a call of the uncut one.

@@ -100,7 +100,7 @@ fn reading_from(word: u32) -> ReadingOption
     ReadingOption::Some(((word - 1) % 65536) as u16)
 }
 
-fn sample_of(call: Call) -> Sample
+pub fn sample_of(call: Call) -> Sample
     ensures { λ r. ⌜ r ≡ sampleOf call ⌝ }
 {
     Sample {

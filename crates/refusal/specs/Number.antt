@@ -38,7 +38,7 @@ questionNumber Cadence = 11
 questionNumber Update = 12
 -- "totals with it at most 604,800,000 ms and 7,000,000,000 mm? 13"
 questionNumber Totals = 13
--- "both arrays of 193 places or more? 14"
+-- "both arrays of 193 places or more? 14", and since document 02's c as many as an update can give events
 questionNumber EventPlaces = 14
 -- "its extra at most 86,400 s or 1,000,000 m after it? 15"
 questionNumber Extra = 15
