@@ -1,18 +1,18 @@
 -- The check word place by place, what a call gave from its own answer, and one word more of the list.
-use mathlib.Core.Path.{_≡_, _∙_, refl, sym, ap}
+use mathlib.Core.Path.{_≡_, refl, ap}
 use mathlib.Core.Bool.{Bool, true, false, cond}
 use mathlib.Core.List.{List}
 use Prim.Native.Nat.{ℕ, suc, _+_, _-_, _/_, _%_, _≤_, _<_, min}
 use native.Mathlib.Nat.{zero-add}
 use native.Mathlib.Omega.{arith}
 use lib.Dec.{eqb}
-use lib.ListN.{length, getD, take, length-take, length-replicate}
+use lib.ListN.{length, getD}
 use borrow.Author.Tests.{eqb-true, eqb-false}
 use Rattle.compare_player.specs.Calls.{turnOf}
 use Rattle.compare_player.specs.declared.Seen.{Seen}
 use Rattle.outcomes.specs.Outcomes.{Called, Answers}
 use Rattle.outcomes.specs.declared.Update.{Update}
-use Rattle.compare_cut.specs.Cuts.{joinedFrom, joinedOne, calledCut, places, turnedCut, cutAfter, nextCut, cutWord, wordAfter}
+use Rattle.compare_cut.specs.Cuts.{joinedFrom, joinedOne, calledCut, turnedCut, cutAfter, nextCut, cutWord, wordAfter}
 
 module _ (ks vs : List ℕ) (n : ℕ) where
   pub joined-start : (h : ℕ) → joinedFrom ks vs 0 (n - 0) h ≡ joinedFrom ks vs 0 n h
@@ -34,13 +34,6 @@ module _ (ks vs : List ℕ) (n : ℕ) where
     where
       none : (n i : ℕ) → n ≤ i → n - i ≡ 0
       none n i l = omega arith
-
--- places of an array of 200
-pub places-long : (k : ℕ) → k ≤ 200 → k ≡ length (take k places)
-places-long k h = least k h ∙ sym (length-take k places ∙ ap (min k) (length-replicate {A = ℕ} 200 0))
-  where
-    least : (k : ℕ) → k ≤ 200 → k ≡ min k 200
-    least k h = omega arith
 
 -- a call's answer and its arrays, which keep their lengths, in words
 pub answers-cut : {ks vs ks' vs' : List ℕ} {r : Update} {o : Called} (check : ℕ) → length ks' ≡ length ks → length vs' ≡ length vs

@@ -1,26 +1,17 @@
--- The arrays of a call of the list, one call more of it, and the words of the last.
-use mathlib.Core.Path.{_≡_, _∙_, sym, ap}
+-- One call more of the list, and the words of the last.
+use mathlib.Core.Path.{_≡_, _∙_, ap}
 use mathlib.Core.Bool.{Bool}
 use mathlib.Core.List.{List}
-use Prim.Native.Nat.{ℕ, _+_, _≤_, min}
+use Prim.Native.Nat.{ℕ, _+_}
 use native.Mathlib.Nat.{zero-add}
 use native.Mathlib.Numerals.{add-one}
-use native.Mathlib.Omega.{arith}
-use lib.ListN.{length, take, length-take, length-replicate}
-use Rattle.compare_player.specs.Calls.{callAt, turnOf, places}
+use Rattle.compare_player.specs.Calls.{callAt, turnOf}
 use Rattle.compare_player.specs.declared.Seen.{Seen}
 use Rattle.outcomes.specs.Outcomes.{Called, Answers}
 use Rattle.outcomes.specs.declared.Update.{Update}
 use Rattle.reports.specs.Reports.{placesOf}
 use Rattle.reports.specs.declared.PlacesRead.{PlacesRead}
 use Rattle.compare_places.specs.Places.{playedLent, playerAfter, lastTurn, lastSeen, placeWord, wordAfter}
-
--- places of an array of 193
-pub places-long : (k : ℕ) → k ≤ 193 → k ≡ length (take k places)
-places-long k h = least k h ∙ sym (length-take k places ∙ ap (min k) (length-replicate {A = ℕ} 193 0))
-  where
-    least : (k : ℕ) → k ≤ 193 → k ≡ min k 193
-    least k h = omega arith
 
 pub player-next : (file calls : List ℕ) (exact : Bool) (i : ℕ)
     → playedLent (playerAfter file calls exact i) (callAt calls i) exact ≡ playerAfter file calls exact (i + 1)

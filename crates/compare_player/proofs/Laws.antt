@@ -1,5 +1,5 @@
 -- The check word place by place, what a call gave from its own answer, and one word more of the list.
-use mathlib.Core.Path.{_≡_, refl, ap}
+use mathlib.Core.Path.{_≡_, _∙_, refl, sym, ap}
 use mathlib.Core.Bool.{Bool, true, false, cond}
 use mathlib.Core.List.{List}
 use Prim.Native.Nat.{ℕ, suc, _+_, _-_, _/_, _%_, _≤_, _<_, min}
@@ -7,7 +7,7 @@ use native.Mathlib.Nat.{zero-add}
 use native.Mathlib.Numerals.{add-one}
 use native.Mathlib.Omega.{arith}
 use lib.Dec.{eqb}
-use lib.ListN.{getD}
+use lib.ListN.{length, getD, take, replicate, length-take, length-replicate}
 use borrow.Author.Tests.{eqb-true, eqb-false}
 use Rattle.compare_reports.specs.Words.{seenWord}
 use Rattle.outcomes.specs.Outcomes.{Called, Answers}
@@ -35,6 +35,13 @@ module _ (ks vs : List ℕ) (n : ℕ) where
     where
       none : (n i : ℕ) → n ≤ i → n - i ≡ 0
       none n i l = omega arith
+
+-- the first k places of an array of n
+pub places-long : (n k : ℕ) → k ≤ n → k ≡ length {A = ℕ} (take k (replicate n 0))
+places-long n k h = least n k h ∙ sym (length-take {A = ℕ} k (replicate n 0) ∙ ap (min k) (length-replicate {A = ℕ} n 0))
+  where
+    least : (n k : ℕ) → k ≤ n → k ≡ min k n
+    least n k h = omega arith
 
 -- a call's answer and its arrays, in words
 pub answers-turn : {ks vs : List ℕ} {r : Update} {o : Called} → Answers places places ks vs r o

@@ -4,7 +4,7 @@ use Prim.Native.Nat.{ℕ, min}
 use native.Mathlib.Omega.{arith}
 use lib.ListN.{take}
 use borrow.Author.Needs.{needs}
-use Rattle.compare_cut.proofs.Laws.{places-long}
+use Rattle.compare_player.proofs.Laws.{places-long}
 use Rattle.compare_cut.specs.Cuts.{rideIn, places}
 use Rattle.compare_cut.proofs.ride.Statement.{statement}
 use Rattle.compare_cut.proofs.ride.Tie as tie
@@ -19,13 +19,13 @@ array-borrow-prefix-kinds : tie.Need-array-borrow-prefix-kinds
 array-borrow-prefix-kinds c = search needs
 
 slice-aggregate-ride-in : tie.Need-slice-aggregate-ride-in
-slice-aggregate-ride-in c = places-long (c .before .before .places-of .result) (omega (arith, c .before .before .places-of .ensures))
+slice-aggregate-ride-in c = places-long 200 (c .before .before .places-of .result) (omega (arith, c .before .before .places-of .ensures))
 
 array-borrow-prefix-values : tie.Need-array-borrow-prefix-values
 array-borrow-prefix-values c = search needs
 
 slice-aggregate-ride-in-2 : tie.Need-slice-aggregate-ride-in-2
-slice-aggregate-ride-in-2 c = places-long (c .before .before .places-of2 .result) (omega (arith, c .before .before .places-of2 .ensures))
+slice-aggregate-ride-in-2 c = places-long 200 (c .before .before .places-of2 .result) (omega (arith, c .before .before .places-of2 .ensures))
 
 ride-in-requires : tie.Need-ride-in-requires
 ride-in-requires c κs = search needs

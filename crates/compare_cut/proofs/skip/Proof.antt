@@ -4,7 +4,7 @@ use Prim.Native.Nat.{ℕ, min}
 use native.Mathlib.Omega.{arith}
 use lib.ListN.{take}
 use borrow.Author.Needs.{needs}
-use Rattle.compare_cut.proofs.Laws.{places-long}
+use Rattle.compare_player.proofs.Laws.{places-long}
 use Rattle.compare_cut.specs.Cuts.{skipIn, places}
 use Rattle.compare_cut.proofs.skip.Statement.{statement}
 use Rattle.compare_cut.proofs.skip.Tie as tie
@@ -19,13 +19,13 @@ array-borrow-prefix-kinds : tie.Need-array-borrow-prefix-kinds
 array-borrow-prefix-kinds c = search needs
 
 slice-aggregate-skip-in : tie.Need-slice-aggregate-skip-in
-slice-aggregate-skip-in c = places-long (c .before .before .places-of .result) (omega (arith, c .before .before .places-of .ensures))
+slice-aggregate-skip-in c = places-long 200 (c .before .before .places-of .result) (omega (arith, c .before .before .places-of .ensures))
 
 array-borrow-prefix-values : tie.Need-array-borrow-prefix-values
 array-borrow-prefix-values c = search needs
 
 slice-aggregate-skip-in-2 : tie.Need-slice-aggregate-skip-in-2
-slice-aggregate-skip-in-2 c = places-long (c .before .before .places-of2 .result) (omega (arith, c .before .before .places-of2 .ensures))
+slice-aggregate-skip-in-2 c = places-long 200 (c .before .before .places-of2 .result) (omega (arith, c .before .before .places-of2 .ensures))
 
 skip-in-requires : tie.Need-skip-in-requires
 skip-in-requires c κs = search needs
