@@ -6,6 +6,7 @@ use Prim.Native.Nat.{ℕ, zero, suc, _-_, _%_, min}
 use lib.Dec.{eqb}
 use lib.ListN.{length, getD}
 use Rattle.refusal.specs.Number.{answerNumber}
+use Rattle.compare_cut.specs.Cuts.{rideCalled}
 use Rattle.compare_player.specs.Calls.{callAt, sampleOf, givenBy, lookedAt, begun}
 use Rattle.compare_player.specs.declared.Call.{Call}
 use Rattle.compare_player.specs.declared.Seen.{Seen}
@@ -13,7 +14,7 @@ use Rattle.compare_player.specs.declared.Turn.{Turn}
 use Rattle.compare_reports.specs.Words.{seenWord}
 use Rattle.outcomes.specs.Outcomes.{Called, eventless, eventlessUpdate}
 use Rattle.outcomes.specs.declared.Update.{Update}
-use Rattle.player.specs.Calls.{rideOf, addOf, skipOf, readOf, extendOf}
+use Rattle.player.specs.Calls.{addOf, skipOf, readOf, extendOf}
 use Rattle.reports.specs.Reports.{placesOf}
 use Rattle.reports.specs.declared.PlacesRead.{PlacesRead}
 use Rattle.state.specs.declared.Player.{Player}
@@ -22,10 +23,7 @@ use Rattle.state.specs.declared.Player.{Player}
 abbrev pub isYes : ℕ → Bool
 isYes n = not (eqb n 0)
 
--- Each call with events, its arrays having so many places.
-abbrev pub rideCalled : Player → Call → ℕ → ℕ → Called
-rideCalled p call kinds values = rideOf p (call .ms) (call .mm) (call .profile) kinds values
-
+-- Each call with events, its arrays having so many places; a ride is compare_cut's.
 abbrev pub addCalled : Player → Call → ℕ → ℕ → Called
 addCalled p call kinds values = addOf p (call .ms) (call .mm) (sampleOf call) (call .profile) kinds values
 

@@ -4,11 +4,12 @@
 ghost use mathlib.Core.Path.{_≡_};
 ghost use Prim.Native.Nat.{_≤_, min};
 ghost use lib.ListN.{length};
+ghost use Rattle.compare_cut.specs.Cuts.{rideCalled};
 ghost use Rattle.compare_files.specs.Files.{filled};
 ghost use Rattle.events.specs.Events.{kindsOf, valuesOf};
 ghost use Rattle.le.specs.Le.{written};
 ghost use Rattle.outcomes.specs.Outcomes.{Answers};
-ghost use Rattle.compare_places.specs.Places.{isYes, rideCalled, addCalled, readUpdate, extendUpdate, calledOf, lentTo, playedLent, playerAfter, lastCalled, placeWord, wordAfter};
+ghost use Rattle.compare_places.specs.Places.{isYes, addCalled, readUpdate, extendUpdate, calledOf, lentTo, playedLent, playerAfter, lastCalled, placeWord, wordAfter};
 use common::least;
 use compare::refused_number;
 use compare_player::Call;

@@ -83,7 +83,7 @@ when-done : (done : Bool) (ms n : ℕ) → done ≡ true → most (isStopped don
 when-done true ms n e = refl
 when-done false ms n e = absurd (let z : _≡_ {A = ℕ} 0 1 = ap (λ (b : Bool). cond b 1 0) e in omega arith)
 
-at-most : (stopped : Bool) (n : ℕ) → most stopped n ≤ n
+pub at-most : (stopped : Bool) (n : ℕ) → cond stopped 0 n ≤ n
 at-most true n = omega arith
 at-most false n = omega arith
 

@@ -11,6 +11,7 @@ use Rattle.zones.specs.declared.TrainingProfile.{TrainingProfile}
 use Rattle.model.specs.declared.Step.{Step}
 use Rattle.model.specs.declared.Workout.{Workout}
 use Rattle.order.specs.Order.{playedLen}
+use Rattle.keeps.proofs.Few.{at-most}
 use Rattle.machine.specs.Machine.{Machine, isNone, stepAt, isFinished, ended, ridden, endsNow, closed, millisecondIn, millisecond, milliseconds}
 use Rattle.machine.specs.Runs.{placesOk}
 
@@ -18,10 +19,6 @@ use Rattle.machine.specs.Runs.{placesOk}
 enough-later : (a b k v : ℕ) → a ≤ b → (leb b k && leb b v) ≡ true → (leb a k && leb a v) ≡ true
 enough-later a b k v h e =
     and-both (le-leb a k (omega (arith, leb-true b k (and-left (leb b k) (leb b v) e)))) (le-leb a v (omega (arith, leb-true b v (and-right (leb b k) (leb b v) e))))
-
-none-or : (t : Bool) (n : ℕ) → cond t 0 n ≤ n
-none-or true n = omega arith
-none-or false n = omega arith
 
 module _ (w : Workout) (p : TrainingProfile) where
   -- the places wanted at a position
@@ -31,7 +28,7 @@ module _ (w : Workout) (p : TrainingProfile) where
   wanted-next : (i : ℕ) (s : Step) → stepAt w i ≡ some s → wantedAt (i + 1) ≤ wantedAt i
   wanted-next i s e =
       let here : wantedAt i ≡ 2 * (playedLen w - i) + 1 = ap (λ (o : Option Step). cond (isNone o) 0 (2 * (playedLen w - i) + 1)) e in
-      omega (arith, here, none-or (isNone (stepAt w (i + 1))) (2 * (playedLen w - (i + 1)) + 1))
+      omega (arith, here, at-most (isNone (stepAt w (i + 1))) (2 * (playedLen w - (i + 1)) + 1))
 
   closed-wants : (t : Bool) (s : Step) (m : Machine) → stepAt w (m .step .position) ≡ some s
       → wantedAt (cond t (ended w s false m) m .step .position) ≤ wantedAt (m .step .position)
