@@ -8,7 +8,7 @@ use lib.Dec.{eqb}
 use lib.ListN.{length, getD, take, replicate}
 use Rattle.le.specs.Le.{written}
 use Rattle.refusal.specs.Number.{answerNumber}
-use Rattle.compare_player.specs.Calls.{mixed, callAt, givenBy, readTurn, extendTurn, lookedAt, begun}
+use Rattle.compare_player.specs.Calls.{mixed, callAt, givenBy, readTurn, extendWithTurn, extendTurn, lookedAt, begun}
 use Rattle.compare_player.specs.declared.Call.{Call}
 use Rattle.compare_player.specs.declared.Seen.{Seen}
 use Rattle.compare_player.specs.declared.Turn.{Turn}
@@ -80,11 +80,12 @@ withCheck turn check =
           };
     }
 
--- by the call's kind: 1 ride, 3 skip, 4 extend, else read
+-- by the call's kind: 1 ride, 3 skip, 4 extend by an amount, 5 extend, else read
 abbrev pub playedBy : ℕ → Player → Call → ℕ → Turn
 playedBy kind p call check =
     cond (eqb kind 1) (rideCut p call check)
-    (cond (eqb kind 3) (skipCut p call check) (cond (eqb kind 4) (withCheck (extendTurn p) check) (withCheck (readTurn p call) check)))
+    (cond (eqb kind 3) (skipCut p call check)
+    (cond (eqb kind 4) (withCheck (extendWithTurn p call) check) (cond (eqb kind 5) (withCheck (extendTurn p) check) (withCheck (readTurn p call) check))))
 
 unfoldable pub playedCut : Player → Call → ℕ → Turn
 playedCut p call check = playedBy (call .kind) p call check

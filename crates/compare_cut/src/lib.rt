@@ -109,7 +109,7 @@ fn with_check(turn: Turn, check: u32) -> Turn
     }
 }
 
-// By the call's kind: ride, skip, extend, else read.
+// By the call's kind: ride, skip, extend by an amount and by the default, else read.
 fn play(player: Player, call: Call, check: u32) -> Turn
     ensures { λ r. ⌜ r ≡ playedCut player call check ⌝ }
 {
@@ -117,7 +117,8 @@ fn play(player: Player, call: Call, check: u32) -> Turn
     match kind {
         1 => ride(player, call, check),
         3 => skip(player, call, check),
-        4 => with_check(compare_player::extend(player), check),
+        4 => with_check(compare_player::extend_with(player, call), check),
+        5 => with_check(compare_player::extend(player), check),
         _ => with_check(compare_player::read(player, call), check),
     }
 }

@@ -13,8 +13,9 @@ use Rattle.compare_player.specs.declared.Seen.{Seen}
 use Rattle.compare_player.specs.declared.Turn.{Turn}
 use Rattle.compare_reports.specs.Words.{seenWord}
 use Rattle.outcomes.specs.Outcomes.{Called, eventless, eventlessUpdate}
+use Rattle.outcomes.specs.declared.Extended.{Extended}
 use Rattle.outcomes.specs.declared.Update.{Update}
-use Rattle.player.specs.Calls.{addOf, skipOf, readOf, extendOf}
+use Rattle.player.specs.Calls.{addOf, skipOf, readOf, extendWith, extendOf}
 use Rattle.reports.specs.Reports.{placesOf}
 use Rattle.reports.specs.declared.PlacesRead.{PlacesRead}
 use Rattle.state.specs.declared.Player.{Player}
@@ -31,18 +32,20 @@ addCalled p call kinds values = addOf p (call .ms) (call .mm) (sampleOf call) (c
 abbrev pub readUpdate : Player → Call → Update
 readUpdate p call = eventlessUpdate (readOf p (sampleOf call) .answer) (readOf p (sampleOf call) .player)
 
-abbrev pub extendUpdate : Player → Update
-extendUpdate p = eventlessUpdate (extendOf p .answer) (extendOf p .player)
+abbrev pub extendedUpdate : Extended → Update
+extendedUpdate e = eventlessUpdate (e .answer) (e .player)
 
 abbrev pub withoutEvents : Update → Called
 withoutEvents u = eventless (u .answer) (u .player)
 
--- by the call's kind: 1 ride, 2 add, 3 skip, 4 extend, else read
+-- by the call's kind: 1 ride, 2 add, 3 skip, 4 extend by `power` seconds or `heart` metres, 5 extend, else read
 abbrev pub calledBy : ℕ → Player → Call → ℕ → ℕ → Called
 calledBy kind p call kinds values =
     cond (eqb kind 1) (rideCalled p call kinds values)
     (cond (eqb kind 2) (addCalled p call kinds values)
-    (cond (eqb kind 3) (skipOf p kinds values) (cond (eqb kind 4) (withoutEvents (extendUpdate p)) (withoutEvents (readUpdate p call)))))
+    (cond (eqb kind 3) (skipOf p kinds values)
+    (cond (eqb kind 4) (withoutEvents (extendedUpdate (extendWith (call .power) (call .heart) p)))
+    (cond (eqb kind 5) (withoutEvents (extendedUpdate (extendOf p))) (withoutEvents (readUpdate p call))))))
 
 unfoldable pub calledOf : Player → Call → ℕ → ℕ → Called
 calledOf p call kinds values = calledBy (call .kind) p call kinds values

@@ -9,7 +9,7 @@ ghost use Rattle.compare_files.specs.Files.{filled};
 ghost use Rattle.events.specs.Events.{kindsOf, valuesOf};
 ghost use Rattle.le.specs.Le.{written};
 ghost use Rattle.outcomes.specs.Outcomes.{Answers};
-ghost use Rattle.compare_places.specs.Places.{isYes, addCalled, readUpdate, extendUpdate, calledOf, lentTo, playedLent, playerAfter, lastCalled, placeWord, wordAfter};
+ghost use Rattle.compare_places.specs.Places.{isYes, addCalled, readUpdate, extendedUpdate, calledOf, lentTo, playedLent, playerAfter, lastCalled, placeWord, wordAfter};
 use common::least;
 use compare::refused_number;
 use compare_player::Call;
@@ -20,8 +20,11 @@ use compare_player::look;
 use compare_player::sample_of;
 use compare_player::turn_of;
 use compare_reports::seen_word;
+use outcomes::Extended;
 use outcomes::Update;
 use outcomes::plain;
+use player::extend;
+use player::extend_with;
 use reports::PlacesRead;
 use reports::event_places;
 use state::Mm;
@@ -47,12 +50,11 @@ fn add(player: Player, call: Call, kinds: &mut [u8], values: &mut [u16]) -> Upda
     player::add(player, ms, mm, sample, profile, kinds, values)
 }
 
-fn extend(player: Player) -> Update
-    ensures { λ r. ⌜ r ≡ extendUpdate player ⌝ }
+fn extended(made: Extended) -> Update
+    ensures { λ r. ⌜ r ≡ extendedUpdate made ⌝ }
 {
-    let touched = player::extend(player);
-    let after = touched.player;
-    let answer = touched.answer;
+    let after = made.player;
+    let answer = made.answer;
     plain(after, answer)
 }
 
@@ -65,7 +67,8 @@ fn read(player: Player, call: Call) -> Update
     plain(after, answer)
 }
 
-// By the call's kind: ride, add, skip, extend, else read. Only the first three have the arrays.
+// By the call's kind: ride, add, skip, extend by `power` seconds or `heart` metres and by the default, else read. Only the first three
+// have the arrays.
 fn update(player: Player, call: Call, kinds: &mut [u8], values: &mut [u16]) -> Update
     ensures { λ r. ⌜ Answers (now (kinds .entry)) (now (values .entry)) (now (kinds .exit)) (now (values .exit)) r (calledOf player call (length (now (kinds .entry))) (length (now (values .entry)))) ⌝ }
 {
@@ -74,7 +77,8 @@ fn update(player: Player, call: Call, kinds: &mut [u8], values: &mut [u16]) -> U
         1 => ride(player, call, kinds, values),
         2 => add(player, call, kinds, values),
         3 => player::skip(player, kinds, values),
-        4 => extend(player),
+        4 => extended(extend_with(player, call.power, call.heart)),
+        5 => extended(extend(player)),
         _ => read(player, call),
     }
 }

@@ -13,7 +13,7 @@ use Rattle.compare_reports.specs.declared.Given.{Given}
 use Rattle.decode.specs.Decode.{decodeOf}
 use Rattle.events.specs.Events.{Event, kindsOf, valuesOf}
 use Rattle.le.specs.Le.{part, written}
-use Rattle.player.specs.Calls.{readOf, rideOf, addOf, skipOf, extendOf}
+use Rattle.player.specs.Calls.{readOf, rideOf, addOf, skipOf, extendWith, extendOf}
 use Rattle.power.specs.declared.ReadingOption.the-variants.{None, Some}
 use Rattle.power.specs.declared.ReadingOption.{ReadingOption}
 use Rattle.readings.specs.declared.Sample.{Sample}
@@ -105,6 +105,10 @@ extendedTurn e =
       given = record { number = answerNumber (e .answer); events = 0; parts = 0; check = 7; extended = e .extended };
     }
 
+-- by as many seconds as `power` says, or as many metres as `heart`
+abbrev pub extendWithTurn : Player → Call → Turn
+extendWithTurn p call = extendedTurn (extendWith (call .power) (call .heart) p)
+
 abbrev pub extendTurn : Player → Turn
 extendTurn p = extendedTurn (extendOf p)
 
@@ -114,7 +118,7 @@ setTurn p call = record { player = setField p (call .ms) (call .mm + 4294967296 
 
 -- by the call's kind
 abbrev pub turns : Player → Call → List Turn
-turns p call = readTurn p call ∷ rideTurn p call ∷ addTurn p call ∷ skipTurn p ∷ extendTurn p ∷ []
+turns p call = readTurn p call ∷ rideTurn p call ∷ addTurn p call ∷ skipTurn p ∷ extendWithTurn p call ∷ extendTurn p ∷ []
 
 unfoldable pub played : Player → Call → Turn
 played p call = getD (turns p call) (call .kind) (setTurn p call)

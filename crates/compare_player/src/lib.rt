@@ -4,7 +4,7 @@ ghost use mathlib.Core.Path.{_≡_};
 ghost use Prim.Native.Nat.{_≤_, _<_, min};
 ghost use lib.ListN.{length};
 ghost use Rattle.compare_files.specs.Files.{filled};
-ghost use Rattle.compare_player.specs.Calls.{mixed, checkFrom, readingFrom, callAt, sampleOf, turnOf, readTurn, rideTurn, addTurn, skipTurn, extendTurn, setTurn, played, lookedAt, turned, begun, seenAfter, nextSeen, wordAfter, playerWord, anyWord};
+ghost use Rattle.compare_player.specs.Calls.{mixed, checkFrom, readingFrom, callAt, sampleOf, turnOf, readTurn, rideTurn, addTurn, skipTurn, extendedTurn, extendWithTurn, extendTurn, setTurn, played, lookedAt, turned, begun, seenAfter, nextSeen, wordAfter, playerWord, anyWord};
 use common::least;
 use compare::refused_number;
 use compare::word_at;
@@ -15,6 +15,7 @@ use compare_reports::Reported;
 use compare_reports::report;
 use compare_reports::seen_word;
 use decode::decode;
+use outcomes::Extended;
 use outcomes::Update;
 use power::ReadingOption;
 use readings::Sample;
@@ -168,22 +169,34 @@ fn skip(player: Player) -> Turn
     turn_of(update, check_of(&kinds, &values, update.events))
 }
 
-pub fn extend(player: Player) -> Turn
-    ensures { λ r. ⌜ r ≡ extendTurn player ⌝ }
+fn extended_turn(made: Extended) -> Turn
+    ensures { λ r. ⌜ r ≡ extendedTurn made ⌝ }
 {
-    let touched = player::extend(player);
-    let answer = touched.answer;
-    let after = touched.player;
+    let answer = made.answer;
+    let player = made.player;
     Turn {
-        player: after,
+        player,
         given: Given {
             number: refused_number(answer),
             events: 0,
             parts: 0,
             check: 7,
-            extended: touched.extended,
+            extended: made.extended,
         },
     }
+}
+
+// By as many seconds as `power` says, or as many metres as `heart`.
+pub fn extend_with(player: Player, call: Call) -> Turn
+    ensures { λ r. ⌜ r ≡ extendWithTurn player call ⌝ }
+{
+    extended_turn(player::extend_with(player, call.power, call.heart))
+}
+
+pub fn extend(player: Player) -> Turn
+    ensures { λ r. ⌜ r ≡ extendTurn player ⌝ }
+{
+    extended_turn(player::extend(player))
 }
 
 // Field `ms` of the player set to `mm` and, above its 32 bits, `power`.
@@ -205,7 +218,7 @@ fn set(player: Player, call: Call) -> Turn
     }
 }
 
-// By the call's kind: read, ride, add, skip, extend, a field set.
+// By the call's kind: read, ride, add, skip, extend by an amount and by the default, a field set.
 fn play(player: Player, call: Call) -> Turn
     ensures { λ r. ⌜ r ≡ played player call ⌝ }
 {
@@ -215,7 +228,8 @@ fn play(player: Player, call: Call) -> Turn
         1 => ride(player, call),
         2 => add(player, call),
         3 => skip(player),
-        4 => extend(player),
+        4 => extend_with(player, call),
+        5 => extend(player),
         _ => set(player, call),
     }
 }

@@ -35,7 +35,7 @@ use Rattle.rounds.specs.Rounds.{riding, rounds}
 use Rattle.rounds.proofs.Keeps.{next-stands}
 use Rattle.outcomes.specs.Outcomes.{Called, eventless, playerOf, withCore, totalled, withLap, longerCore, notLonger, extendedBy, longerBy, extendCore, extendBy, notExtended, ExtraFits}
 use Rattle.updates.specs.Updates.{rodeTo, rideBy, rideNow, addNow, skipTo, skipNow, Supposes}
-use Rattle.player.specs.Calls.{updateAnswer, placesOk, rideOf, readBy, readAnswer, readOf, addOf, skipOf, extendNow, extendOf}
+use Rattle.player.specs.Calls.{updateAnswer, placesOk, rideOf, readBy, readAnswer, readOf, addOf, skipOf, extendNow, extendWith}
 use Rattle.updates.proofs.Laws.{totalled-stands, read-stands, read-supposes}
 use Rattle.player.proofs.Laws.{update-passed, ride-10, ride-refused, ride-taken, skip-14, skip-taken, extra-fits, add-10, add-11, add-refused, add-taken}
 use Rattle.keeps.specs.Keeps.{PowerFits, PlayerFits}
@@ -178,34 +178,34 @@ module _ (p : Player) (e : standingOf p ≡ true) (d : p .core .done ≡ false) 
       (and-both (and-both (longer-below (c .on .length) secs metres (c .lap) (and-left below s (and-left (below && s) m was))) (le-leb (lap .«extra_s») 86400 a)) (le-leb (lap .«extra_m») 1000000 b)) in
       stands (withCore (withLap lap c) p) (record { core = lap-stands (p .workout) c lap (k .core) refl refl ok; note = k .note })
 
-  by-kept : standingOf (extendBy 60 500 (p .core .on .length) p .player) ≡ true
+  by-kept : (secs metres : ℕ) → standingOf (extendBy secs metres (p .core .on .length) p .player) ≡ true
   unfolding extendBy extendCore
-  by-kept = at (p .core .on .length)
+  by-kept secs metres = at (p .core .on .length)
     where
-      fits : ExtraFits (p .core) 60 500
+      fits : ExtraFits (p .core)
       fits = extra-fits p e d
 
-      timed : (t : Bool) → leb (p .core .lap .«extra_s» + 60) 86400 ≡ t → standingOf (extendedBy p (cond t (longerCore 60 0 (p .core)) (notLonger (Refused refusals.Extra) (p .core))) .player) ≡ true
-      timed true t = longer-kept 60 0 (leb-true (p .core .lap .«extra_s» + 60) 86400 t) (omega (arith, fits .extra-m))
+      timed : (t : Bool) → leb (p .core .lap .«extra_s» + secs) 86400 ≡ t → standingOf (extendedBy p (cond t (longerCore secs 0 (p .core)) (notLonger (Refused refusals.Extra) (p .core))) .player) ≡ true
+      timed true t = longer-kept secs 0 (leb-true (p .core .lap .«extra_s» + secs) 86400 t) (omega (arith, fits .extra-m))
       timed false t = e
 
-      way : (t : Bool) → leb (p .core .lap .«extra_m» + 500) 1000000 ≡ t → standingOf (extendedBy p (cond t (longerCore 0 500 (p .core)) (notLonger (Refused refusals.Extra) (p .core))) .player) ≡ true
-      way true t = longer-kept 0 500 (omega (arith, fits .extra-s)) (leb-true (p .core .lap .«extra_m» + 500) 1000000 t)
+      way : (t : Bool) → leb (p .core .lap .«extra_m» + metres) 1000000 ≡ t → standingOf (extendedBy p (cond t (longerCore 0 metres (p .core)) (notLonger (Refused refusals.Extra) (p .core))) .player) ≡ true
+      way true t = longer-kept 0 metres (omega (arith, fits .extra-s)) (leb-true (p .core .lap .«extra_m» + metres) 1000000 t)
       way false t = e
 
-      at : (l : Length) → standingOf (extendBy 60 500 l p .player) ≡ true
-      at (Time secs) = timed (leb (p .core .lap .«extra_s» + 60) 86400) refl
-      at (Distance metres) = way (leb (p .core .lap .«extra_m» + 500) 1000000) refl
+      at : (l : Length) → standingOf (extendBy secs metres l p .player) ≡ true
+      at (Time time) = timed (leb (p .core .lap .«extra_s» + secs) 86400) refl
+      at (Distance long) = way (leb (p .core .lap .«extra_m» + metres) 1000000) refl
       at Open = e
 
-pub extend-kept : (p : Player) → standingOf p ≡ true → standingOf (extendOf p .player) ≡ true
-unfolding extendOf
-extend-kept p e = at (standingOf p)
+pub extend-kept : (p : Player) (secs metres : ℕ) → standingOf p ≡ true → standingOf (extendWith secs metres p .player) ≡ true
+unfolding extendWith
+extend-kept p secs metres e = at (standingOf p)
   where
-    unfinished : (t : Bool) → p .core .done ≡ t → standingOf (cond t (notExtended Accepted p) (extendBy 60 500 (p .core .on .length) p) .player) ≡ true
+    unfinished : (t : Bool) → p .core .done ≡ t → standingOf (extendNow secs metres t p .player) ≡ true
     unfinished true d = e
-    unfinished false d = by-kept p e d
+    unfinished false d = by-kept p e d secs metres
 
-    at : (b : Bool) → standingOf (cond b (extendNow (p .core .done) p) (notExtended (Refused refusals.Standing) p) .player) ≡ true
+    at : (b : Bool) → standingOf (cond b (extendNow secs metres (p .core .done) p) (notExtended (Refused refusals.Standing) p) .player) ≡ true
     at true = unfinished (p .core .done) refl
     at false = e

@@ -22,7 +22,7 @@ use Rattle.rounds.specs.Rounds.{Riding, riding, Rode, ridingOf, advanced, round
 use Rattle.standing.specs.Standing.{standingOf}
 use Rattle.outcomes.specs.Outcomes.{Called, eventless, totalled, notExtended, notLonger, longerCore, extendCore, extendedBy, extendBy}
 use Rattle.updates.specs.Updates.{rideBy, rideNow, skipTo, skipNow}
-use Rattle.player.specs.Calls.{answered, rideAnswer, rideOf, readAnswer, readBy, readOf, skipAnswer, skipOf, extendOf}
+use Rattle.player.specs.Calls.{answered, rideAnswer, rideOf, readAnswer, readBy, readOf, skipAnswer, skipOf, extendWith}
 use Rattle.keeps.specs.Keeps.{PowerFits, PlayerFits}
 use Rattle.keeps.proofs.Rides.{closed-readings}
 
@@ -96,21 +96,21 @@ module _ (p : Player) (fits : PlayerFits p) where
       at true = fits
       at false = fits-by p (skipTo p (nextOf (p .workout) true (p .core)) .player) refl refl fits
 
-  pub extend-fits : PlayerFits (extendOf p .player)
-  unfolding extendOf extendBy extendCore
-  extend-fits = at (standingOf p) (p .core .done) (p .core .on .length)
+  pub extend-fits : (secs metres : ℕ) → PlayerFits (extendWith secs metres p .player)
+  unfolding extendWith extendBy extendCore
+  extend-fits secs metres = at (standingOf p) (p .core .done) (p .core .on .length)
     where
       longer : (t : Bool) (secs metres : ℕ) → PlayerFits (extendedBy p (cond t (longerCore secs metres (p .core)) (notLonger (Refused refusals.Extra) (p .core))) .player)
       longer true secs metres = fits-by p (extendedBy p (longerCore secs metres (p .core)) .player) refl refl fits
       longer false secs metres = fits-by p (extendedBy p (notLonger (Refused refusals.Extra) (p .core)) .player) refl refl fits
 
-      by : (secs metres : ℕ) (lasts : Length) → PlayerFits (extendedBy p (extendCore secs metres lasts (p .core)) .player)
-      by secs metres (Time time) = longer (leb (p .core .lap .«extra_s» + secs) 86400) secs 0
-      by secs metres (Distance way) = longer (leb (p .core .lap .«extra_m» + metres) 1000000) 0 metres
-      by secs metres Open = fits-by p (extendedBy p (notLonger Accepted (p .core)) .player) refl refl fits
+      by : (lasts : Length) → PlayerFits (extendedBy p (extendCore secs metres lasts (p .core)) .player)
+      by (Time time) = longer (leb (p .core .lap .«extra_s» + secs) 86400) secs 0
+      by (Distance way) = longer (leb (p .core .lap .«extra_m» + metres) 1000000) 0 metres
+      by Open = fits-by p (extendedBy p (notLonger Accepted (p .core)) .player) refl refl fits
 
       at : (stands done : Bool) (lasts : Length)
-          → PlayerFits (cond stands (cond done (notExtended Accepted p) (extendedBy p (extendCore 60 500 lasts (p .core)))) (notExtended (Refused refusals.Standing) p) .player)
+          → PlayerFits (cond stands (cond done (notExtended Accepted p) (extendedBy p (extendCore secs metres lasts (p .core)))) (notExtended (Refused refusals.Standing) p) .player)
       at true true lasts = fits
-      at true false lasts = by 60 500 lasts
+      at true false lasts = by lasts
       at false done lasts = fits

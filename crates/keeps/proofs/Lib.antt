@@ -4,4 +4,5 @@ pub mod Calls
 pub mod Fresh
 pub mod Few
 pub mod Places
+pub mod Extends
 pub mod Fits

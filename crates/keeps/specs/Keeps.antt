@@ -14,7 +14,7 @@ use Rattle.power.specs.Power.{orZero}
 use Rattle.state.specs.declared.Player.{Player}
 use Rattle.standing.specs.Standing.{standingOf}
 use Rattle.start.specs.Start.{fresh}
-use Rattle.player.specs.Calls.{rideOf, readOf, addOf, skipOf, extendOf}
+use Rattle.player.specs.Calls.{rideOf, readOf, addOf, skipOf, extendWith}
 
 -- A reading fits its 16 bits, as every sample's in memory does.
 abbrev pub PowerFits : Sample → Type 0
@@ -35,4 +35,5 @@ pub record KeepsStanding : Type 0 where
   pub add : (p : Player) (ms mm : ℕ) (sample : Sample) (f : TrainingProfile) (kinds values : ℕ) → PlayerFits p → PowerFits sample → standingOf p ≡ true
       → standingOf (addOf p ms mm sample f kinds values .player) ≡ true
   pub skip : (p : Player) (kinds values : ℕ) → PlayerFits p → standingOf p ≡ true → standingOf (skipOf p kinds values .player) ≡ true
-  pub extend : (p : Player) → standingOf p ≡ true → standingOf (extendOf p .player) ≡ true
+  -- by any amount (document 02, i), the plain call's too
+  pub extend : (p : Player) (secs metres : ℕ) → standingOf p ≡ true → standingOf (extendWith secs metres p .player) ≡ true

@@ -1,3 +1,4 @@
 pub mod Keeps
 pub mod Few
 pub mod Places
+pub mod Extends

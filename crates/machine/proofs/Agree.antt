@@ -39,8 +39,8 @@ module _ (w : Workout) (p : TrainingProfile) where
       ride-whole ms mm kinds values fs g k b ∙ ap (milliseconds w p ms) e ∙ sym (ride-whole ms mm kinds values es f h a)
   call-same (skip kinds values) es fs f g h k e a b =
       unless-same (skipAsks w kinds values g) (skipAsks w kinds values f) f g (λ m. skipped w (stepAt w (m .step .position)) m) e (b .0) (a .0)
-  call-same extend es fs f g h k e a b =
-      unless-same (extendAsks w g) (extendAsks w f) f g (λ m. withExtra (extraAfter (stepAt w (m .step .position)) 60 (m .step .extra)) m) e (b .0) (a .0)
+  call-same (extend secs metres) es fs f g h k e a b =
+      unless-same (extendAsks w secs g) (extendAsks w secs f) f g (λ m. withExtra (extraAfter (stepAt w (m .step .position)) secs (m .step .extra)) m) e (b .0) (a .0)
 
   list-same : (l k : List CutCall) (f g : Progress) → uncut l ≡ uncut k → AllWellCut l → AllWellCut k → g .machine ≡ f .machine
       → AllAccepted (callsAsk w p l f) → AllAccepted (callsAsk w p k g) → afterCalls w p k g .machine ≡ afterCalls w p l f .machine
@@ -69,7 +69,7 @@ unfolding own sumMs sumMm
 own-well (read sample) = tt
 own-well (ride ms mm kinds values) = record { some = omega arith; ms-sum = add-zero ms; mm-sum = add-zero mm }
 own-well (skip kinds values) = tt
-own-well extend = tt
+own-well (extend secs metres) = tt
 
 alone-well : (cs : List Call) → AllWellCut (alone cs)
 unfolding alone

@@ -33,7 +33,7 @@ use Rattle.standing.proofs.Known.{known}
 use Rattle.player.specs.Calls as player
 use Rattle.outcomes.specs.Outcomes.{Called, eventless, playerOf, withCore, totalled, notExtended, longerCore, notLonger, extendedBy, longerBy, extendCore, extendBy}
 use Rattle.updates.specs.Updates.{rideBy, rideNow, skipTo, skipNow}
-use Rattle.player.specs.Calls.{answered, updateAnswer, rideAnswer, rideOf, readAnswer, readBy, readOf, skipAnswer, skipOf, extendNow, extendOf}
+use Rattle.player.specs.Calls.{answered, updateAnswer, rideAnswer, rideOf, readAnswer, readBy, readOf, skipAnswer, skipOf, extendNow, extendWith}
 use Rattle.machine.specs.Machine.{Machine, isNone, stepAt, isFinished, reading, extraIn, extraAfter, withExtra, skipped, milliseconds}
 use Rattle.machine.specs.Cutting.{read, skip, extend, Piece}
 use Rattle.machine.specs.Runs.{ofRead, ofExtend, called, Totals, Progress, cadenceOk, readAsks, pieceOk, placesWanted, placesOk, pieceAsks, skipAsks, extraAsks, extendAsks, unlessRefused, withPiece, afterPiece, afterCall}
@@ -246,11 +246,11 @@ module _ (w : Workout) (p : TrainingProfile) (T : Held w) (ok : profileOk p ≡ 
         (ap ofExtend (cond-false (q .core .done) (notExtended Accepted q) (extendBy secs metres (q .core .on .length) q) (n .done) ∙ ap (λ (l : Length). extendBy secs metres l q) (n .on .length)))
         (extend-in (t .length) t secs metres (each w T (m .step .position) t e .lasting) e)
 
-    pub extend-is : (qs : List Piece) → Goes w k (called p extend q) (extendAsks w s) (afterCall w p extend qs s)
-    unfolding called afterCall extendOf
-    extend-is qs =
-        goes-by k (ap ofExtend (cond-true (standingOf q) (extendNow (q .core .done) q) (notExtended (Refused refusals.Standing) q) st))
-        (extend-by (stepAt w (m .step .position)) 60 500 refl)
+    pub extend-is : (secs metres : ℕ) (qs : List Piece) → Goes w k (called p (extend secs metres) q) (extendAsks w secs s) (afterCall w p (extend secs metres) qs s)
+    unfolding called afterCall extendWith
+    extend-is secs metres qs =
+        goes-by k (ap ofExtend (cond-true (standingOf q) (extendNow secs metres (q .core .done) q) (notExtended (Refused refusals.Standing) q) st))
+        (extend-by (stepAt w (m .step .position)) secs metres refl)
 
     -- Ride, one piece.
 

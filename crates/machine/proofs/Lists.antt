@@ -87,7 +87,8 @@ call-fits w p (read sample) es s h f = unless-fits (readAsks sample) s (reading 
 call-fits w p (ride ms mm kinds values) es s h f = pieces-fit w p kinds values es s f
 call-fits w p (skip kinds values) es s h f =
     unless-fits (skipAsks w kinds values s) s (skipped w (stepAt w (s .machine .step .position)) (s .machine)) f (fits-by (s .machine) (skipped w (stepAt w (s .machine .step .position)) (s .machine)) (skip-readings w (stepAt w (s .machine .step .position)) (s .machine)) f)
-call-fits w p extend es s h f = unless-fits (extendAsks w s) s (withExtra (extraNext w s) (s .machine)) f (fits-by (s .machine) (withExtra (extraNext w s) (s .machine)) (extra-readings (extraNext w s) (s .machine)) f)
+call-fits w p (extend secs metres) es s h f =
+    unless-fits (extendAsks w secs s) s (withExtra (extraNext w secs s) (s .machine)) f (fits-by (s .machine) (withExtra (extraNext w secs s) (s .machine)) (extra-readings (extraNext w secs s) (s .machine)) f)
 
 module _ (p : TrainingProfile) where
   -- every call keeps standing
@@ -96,7 +97,7 @@ module _ (p : TrainingProfile) where
   call-keeps (read sample) q f st = keeps-standing .read q sample st
   call-keeps (ride ms mm kinds values) q f st = keeps-standing .ride q ms mm p kinds values f st
   call-keeps (skip kinds values) q f st = keeps-standing .skip q kinds values f st
-  call-keeps extend q f st = keeps-standing .extend q st
+  call-keeps (extend secs metres) q f st = keeps-standing .extend q secs metres st
 
 -- Runs of joined lists.
 
@@ -192,9 +193,9 @@ module _ (w : Workout) (p : TrainingProfile) (T : Held w) (ok : profileOk p ≡ 
   call-is (skip kinds values) es h k q s A =
       one-call k (skip kinds values) q (skipAsks w kinds values s) (afterCall w p (skip kinds values) es s) (skip-is w p T ok k q s (A .same) (A .stands) kinds values es)
       (call-keeps p (skip kinds values) q (player-fits A) (A .stands)) (call-fits w p (skip kinds values) es s h (A .fits))
-  call-is extend es h k q s A =
-      one-call k extend q (extendAsks w s) (afterCall w p extend es s) (extend-is w p T ok k q s (A .same) (A .stands) es)
-      (call-keeps p extend q (player-fits A) (A .stands)) (call-fits w p extend es s h (A .fits))
+  call-is (extend secs metres) es h k q s A =
+      one-call k (extend secs metres) q (extendAsks w secs s) (afterCall w p (extend secs metres) es s) (extend-is w p T ok k q s (A .same) (A .stands) secs metres es)
+      (call-keeps p (extend secs metres) q (player-fits A) (A .stands)) (call-fits w p (extend secs metres) es s h (A .fits))
 
   pub list-is : (l : List CutCall) → ReadsFit l → (k : List Event) (q : Player) (s : Progress) → After k q s
       → RunIs k (run p (cut l) q) (callsAsk w p l s) (afterCalls w p l s)

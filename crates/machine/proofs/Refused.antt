@@ -20,7 +20,7 @@ use Rattle.standing.specs.Standing.{standingOf}
 use Rattle.outcomes.specs.declared.Extended.{Extended}
 use Rattle.outcomes.specs.Outcomes.{Called, eventless, totalled, notExtended, longerCore, notLonger, extendedBy, extendCore, extendBy}
 use Rattle.updates.specs.Updates.{rideBy, rideNow, skipTo, skipNow}
-use Rattle.player.specs.Calls.{answered, rideAnswer, rideOf, readAnswer, readBy, readOf, skipAnswer, skipOf, extendNow, extendOf}
+use Rattle.player.specs.Calls.{answered, rideAnswer, rideOf, readAnswer, readBy, readOf, skipAnswer, skipOf, extendNow, extendWith}
 use Rattle.machine.specs.Cutting.{read, ride, skip, extend}
 use Rattle.machine.specs.Runs.{ofRead, ofExtend, called}
 use Rattle.machine.specs.ThirdDemand.{RefusedStays}
@@ -69,18 +69,18 @@ module _ (q : Player) (r : Refusal) where
   extend-by-stays secs metres (Distance way) h = longer-stays (leb (q .core .lap .«extra_m» + metres) 1000000) 0 metres h
   extend-by-stays secs metres Open h = (refl, refl)
 
-  extend-now-stays : (done : Bool) → Extends (extendNow done q)
-  extend-now-stays true h = (refl, refl)
-  extend-now-stays false h = extend-by-stays 60 500 (q .core .on .length) h
+  extend-now-stays : (secs metres : ℕ) (done : Bool) → Extends (extendNow secs metres done q)
+  extend-now-stays secs metres true h = (refl, refl)
+  extend-now-stays secs metres false h = extend-by-stays secs metres (q .core .on .length) h
 
-  extend-stays : (t : Bool) → Extends (cond t (extendNow (q .core .done) q) (notExtended (Refused refusals.Standing) q))
-  extend-stays true h = extend-now-stays (q .core .done) h
-  extend-stays false h = (refl, refl)
+  extend-stays : (secs metres : ℕ) (t : Bool) → Extends (cond t (extendNow secs metres (q .core .done) q) (notExtended (Refused refusals.Standing) q))
+  extend-stays secs metres true h = extend-now-stays secs metres (q .core .done) h
+  extend-stays secs metres false h = (refl, refl)
 
 pub refused-stays : RefusedStays
-unfolding called readOf rideOf skipOf extendOf
+unfolding called readOf rideOf skipOf extendWith
 refused-stays p (read sample) q r h = read-stays q r sample (readAnswer q sample) h
 refused-stays p (ride ms mm kinds values) q r h =
     answered-stays q r (rideAnswer q ms mm p kinds values) (rideNow q ms mm p) (now-taken q r ms mm p) h
 refused-stays p (skip kinds values) q r h = answered-stays q r (skipAnswer q kinds values) (skipNow q) (skip-taken q r) h
-refused-stays p extend q r h = extend-stays q r (standingOf q) h
+refused-stays p (extend secs metres) q r h = extend-stays q r secs metres (standingOf q) h

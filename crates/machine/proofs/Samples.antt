@@ -11,7 +11,8 @@ use Rattle.form.specs.Form.{formOk, stepSlots, blockSlots, isNoStep}
 use Rattle.validation.specs.Sound.{stepOk, validAnswer, workoutAnswer}
 use Rattle.standing.specs.Standing.{sameLength, sameTarget, sameStep, sameBytes, sameName, onPlace, coreOk, standingOf}
 use Rattle.start.specs.Start.{fresh, newOf}
-use Rattle.player.specs.Calls.{skipAnswer, skipOf}
+use Rattle.outcomes.specs.Outcomes.{extendCore, extendBy}
+use Rattle.player.specs.Calls.{skipAnswer, skipOf, extendWith}
 use Rattle.machine.specs.Cutting.{uncut, own, alone, sumMs, sumMm}
 use Rattle.order.specs.Order as order
 use Rattle.order.specs.Order.{playedOf, playedLen, nth, run, runs, blockAt}
@@ -20,16 +21,16 @@ use Rattle.machine.specs.Runs.{called, begun, pieceAsks, unlessRefused, 
 use Rattle.machine.specs.Samples.{Samples}
 
 pub samples-are : Samples
-unfolding milliseconds millisecond millisecondIn closed ridden ended endsNow summed rested tally readingFor reading withExtra skipped start stepAt isFinished playedOf order.stepAt playedLen order.order nth run runs blockAt sum range repeats bandOf present summaryOf result ramp twenty mean greatest begun pieceAsks unlessRefused withPiece afterPiece afterPieces afterCall afterCalls piecesAsk callAsks callsAsk flatMap all allAt nameOk percentOf heartZone heartRange capped blocksSound allApart formOk stepSlots blockSlots isNoStep stepOk validAnswer workoutAnswer sameLength sameTarget sameStep sameBytes sameName onPlace coreOk standingOf fresh newOf skipAnswer skipOf uncut own alone sumMs sumMm called
+unfolding milliseconds millisecond millisecondIn closed ridden ended endsNow summed rested tally readingFor reading withExtra skipped start stepAt isFinished playedOf order.stepAt playedLen order.order nth run runs blockAt sum range repeats bandOf present summaryOf result ramp twenty mean greatest begun pieceAsks unlessRefused withPiece afterPiece afterPieces afterCall afterCalls piecesAsk callAsks callsAsk flatMap all allAt nameOk percentOf heartZone heartRange capped blocksSound allApart formOk stepSlots blockSlots isNoStep stepOk validAnswer workoutAnswer sameLength sameTarget sameStep sameBytes sameName onPlace coreOk standingOf fresh newOf skipAnswer skipOf extendCore extendBy extendWith uncut own alone sumMs sumMm called
 samples-are =
     record {
       taken = record { passes = refl; plain = refl };
       profiled = refl;
-      well-cut = ((tt, (record { some = omega arith; ms-sum = refl; mm-sum = refl }, (tt, (tt, tt)))), (tt, (record { some = omega arith; ms-sum = refl; mm-sum = refl }, (tt, (tt, tt)))));
-      in-memory = record { twelve = refl; reads = (omega arith, (tt, (tt, (tt, tt)))) };
+      well-cut = ((tt, (record { some = omega arith; ms-sum = refl; mm-sum = refl }, (tt, (tt, (tt, tt))))), (tt, (record { some = omega arith; ms-sum = refl; mm-sum = refl }, (tt, (tt, (tt, tt))))));
+      in-memory = record { twelve = refl; reads = (omega arith, (tt, (tt, (tt, (tt, tt))))) };
       one-list = refl;
-      not-refused = ((refl, (refl, (refl, (refl, (refl, tt))))), (refl, (refl, (refl, (refl, (refl, tt))))));
-      as-it-stands = (refl, (refl, (refl, (refl, tt))));
+      not-refused = ((refl, (refl, (refl, (refl, (refl, (refl, tt)))))), (refl, (refl, (refl, (refl, (refl, (refl, tt)))))));
+      as-it-stands = (refl, (refl, (refl, (refl, (refl, tt)))));
       skip-refused = refl;
       two = refl;
       three = refl;
@@ -48,6 +49,8 @@ samples-are =
       skips = refl;
       marked = refl;
       longer = refl;
+      limits = refl;
+      metres = refl;
       refused = refl;
       ridden = refl;
       places = refl;

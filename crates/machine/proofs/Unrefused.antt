@@ -31,7 +31,7 @@ unfolding callsOf own
 own-calls (read sample) cs = refl
 own-calls (ride ms mm kinds values) cs = refl
 own-calls (skip kinds values) cs = refl
-own-calls extend cs = refl
+own-calls (extend secs metres) cs = refl
 
 pub alone-is : (cs : List Call) → cut (alone cs) ≡ cs
 unfolding cut alone
@@ -197,15 +197,15 @@ module _ (w : Workout) (p : TrainingProfile) where
       (b, tt) (unless-taken (skipAsks w kinds values g) g (after (g .machine)) b) (unless-taken (skipAsks w kinds values f) f (after (f .machine)) (a .0))
       (ap after e) t
 
-  extend-beside : (es : List Piece) (f g : Progress) → g .machine ≡ f .machine → AtMost (g .totals) (f .totals)
-      → AllAccepted (callAsks w p extend (own extend) f) → Beside extend es f g
+  extend-beside : (secs metres : ℕ) (es : List Piece) (f g : Progress) → g .machine ≡ f .machine → AtMost (g .totals) (f .totals)
+      → AllAccepted (callAsks w p (extend secs metres) (own (extend secs metres)) f) → Beside (extend secs metres) es f g
   unfolding callAsks afterCall
-  extend-beside es f g e t a =
-      let next : Machine → Option ℕ = λ m. extraAfter (stepAt w (m .step .position)) 60 (m .step .extra) in
-      let b : extendAsks w g ≡ Accepted = ap (λ (m : Machine). extraAsks (next m)) e ∙ a .0 in
+  extend-beside secs metres es f g e t a =
+      let next : Machine → Option ℕ = λ m. extraAfter (stepAt w (m .step .position)) secs (m .step .extra) in
+      let b : extendAsks w secs g ≡ Accepted = ap (λ (m : Machine). extraAsks (next m)) e ∙ a .0 in
       let after : Machine → Machine = λ m. withExtra (next m) m in
-      beside-by extend es f g (record { machine = after (f .machine); totals = f .totals }) (record { machine = after (g .machine); totals = g .totals })
-      (b, tt) (unless-taken (extendAsks w g) g (after (g .machine)) b) (unless-taken (extendAsks w f) f (after (f .machine)) (a .0))
+      beside-by (extend secs metres) es f g (record { machine = after (f .machine); totals = f .totals }) (record { machine = after (g .machine); totals = g .totals })
+      (b, tt) (unless-taken (extendAsks w secs g) g (after (g .machine)) b) (unless-taken (extendAsks w secs f) f (after (f .machine)) (a .0))
       (ap after e) t
 
   ride-beside : (ms mm kinds values : ℕ) (es : List Piece) (f g : Progress) → Cuts ms mm es → g .machine ≡ f .machine → AtMost (g .totals) (f .totals)
@@ -233,7 +233,7 @@ module _ (w : Workout) (p : TrainingProfile) where
   call-beside (read sample) es f g h e t a = read-beside sample es f g e t a
   call-beside (ride ms mm kinds values) es f g h e t a = ride-beside ms mm kinds values es f g h e t a
   call-beside (skip kinds values) es f g h e t a = skip-beside kinds values es f g e t a
-  call-beside extend es f g h e t a = extend-beside es f g e t a
+  call-beside (extend secs metres) es f g h e t a = extend-beside secs metres es f g e t a
 
   pub list-unrefused : (l : List CutCall) (f g : Progress) → AllWellCut l → g .machine ≡ f .machine → AtMost (g .totals) (f .totals)
       → AllAccepted (callsAsk w p (alone (uncut l)) f) → AllAccepted (callsAsk w p l g)

@@ -7,12 +7,13 @@ use Rattle.readings.specs.declared.Sample.{Sample}
 use Rattle.power.specs.Power.{orZero}
 
 -- "every list of read, ride, skip and extend calls", each with its arguments but for player and profile: a reading's sample; a
--- ride's ms, mm and lengths of the lent arrays of kinds and values; a skip's lengths of those arrays.
+-- ride's ms, mm and lengths of the lent arrays of kinds and values; a skip's lengths of those arrays; an extend's seconds and metres
+-- (document 02, i).
 pub data Call : Type 0 where
   read : Sample → Call
   ride : ℕ → ℕ → ℕ → ℕ → Call
   skip : ℕ → ℕ → Call
-  extend : Call
+  extend : ℕ → ℕ → Call
 
 -- "A ride is cut into one or more rides in a row": one of them.
 pub record Piece : Type 0 where
@@ -33,7 +34,7 @@ unfoldable pub callsOf : Call → List Piece → List Call
 callsOf (read sample) qs = read sample ∷ []
 callsOf (ride ms mm kinds values) qs = map (pieceCall kinds values) qs
 callsOf (skip kinds values) qs = skip kinds values ∷ []
-callsOf extend qs = extend ∷ []
+callsOf (extend secs metres) qs = extend secs metres ∷ []
 
 -- The uncut list and the cut list.
 
@@ -63,7 +64,7 @@ abbrev pub WellCut : Call → List Piece → Type 0
 WellCut (read sample) qs = Unit
 WellCut (ride ms mm kinds values) qs = Cuts ms mm qs
 WellCut (skip kinds values) qs = Unit
-WellCut extend qs = Unit
+WellCut (extend secs metres) qs = Unit
 
 abbrev pub AllWellCut : List CutCall → Type 0
 AllWellCut [] = Unit
@@ -74,7 +75,7 @@ abbrev pub ReadFits : Call → Type 0
 ReadFits (read sample) = orZero (sample .«power_watts») < 65536
 ReadFits (ride ms mm kinds values) = Unit
 ReadFits (skip kinds values) = Unit
-ReadFits extend = Unit
+ReadFits (extend secs metres) = Unit
 
 abbrev pub ReadsFit : List CutCall → Type 0
 ReadsFit [] = Unit
@@ -86,7 +87,7 @@ unfoldable pub own : Call → List Piece
 own (read sample) = []
 own (ride ms mm kinds values) = record { ms = ms; mm = mm } ∷ []
 own (skip kinds values) = []
-own extend = []
+own (extend secs metres) = []
 
 unfoldable pub alone : List Call → List CutCall
 alone [] = []

@@ -125,7 +125,7 @@ newest (sample ∷ samples) = sample
 
 -- Extend.
 
--- "60 s more in an unfinished timed step": the extra after it, if it is one.
+-- "Extend: .. more in an unfinished timed step", the seconds of the call: the extra after it, if it is one.
 abbrev pub extraIn : Length → ℕ → ℕ → Option ℕ
 extraIn (Time time) secs extra = some (extra + secs)
 extraIn (Distance metres) secs extra = none

@@ -20,7 +20,7 @@ use Rattle.state.specs.declared.Player.{Player}
 use Rattle.outcomes.specs.declared.Update.{Update}
 use Rattle.outcomes.specs.declared.Extended.{Extended}
 use Rattle.outcomes.specs.Outcomes.{Called}
-use Rattle.player.specs.Calls.{readOf, rideOf, skipOf, extendOf}
+use Rattle.player.specs.Calls.{readOf, rideOf, skipOf, extendWith}
 use Rattle.machine.specs.Machine.{Machine, start, stepAt, isFinished, reading, extraAfter, withExtra, skipped, milliseconds}
 use Rattle.machine.specs.Cutting.{Call, read, ride, skip, extend, Piece, CutCall}
 
@@ -33,12 +33,13 @@ ofRead r = record { answer = r .answer; player = r .player; events = []; parts =
 abbrev pub ofExtend : Extended → Called
 ofExtend r = record { answer = r .answer; player = r .player; events = []; parts = 0 }
 
--- What a call gives: the definitions that `read`, `ride`, `skip` and `extend` are proved equal to.
+-- What a call gives: the definitions that `read`, `ride`, `skip` and `extend_with` are proved equal to; `extend` is the last one by its
+-- default.
 unfoldable pub called : TrainingProfile → Call → Player → Called
 called p (read sample) player = ofRead (readOf player sample)
 called p (ride ms mm kinds values) player = rideOf player ms mm p kinds values
 called p (skip kinds values) player = skipOf player kinds values
-called p extend player = ofExtend (extendOf player)
+called p (extend secs metres) player = ofExtend (extendWith secs metres player)
 
 -- The player after a list of calls, their events joined, and the answer of each.
 pub record Run : Type 0 where
@@ -110,12 +111,12 @@ abbrev pub extraAsks : Option ℕ → Answer
 extraAsks none = Accepted
 extraAsks (some extra) = ask (leb extra 86400) refusals.Extra Accepted
 
--- "Extend: 60 s more"
-abbrev pub extraNext : Workout → Progress → Option ℕ
-extraNext w s = extraAfter (stepAt w (s .machine .step .position)) 60 (s .machine .step .extra)
+-- "The millisecond machine's extend adds the seconds of the call." (document 02, i; it was "60 s more")
+abbrev pub extraNext : Workout → ℕ → Progress → Option ℕ
+extraNext w secs s = extraAfter (stepAt w (s .machine .step .position)) secs (s .machine .step .extra)
 
-abbrev pub extendAsks : Workout → Progress → Answer
-extendAsks w s = extraAsks (extraNext w s)
+abbrev pub extendAsks : Workout → ℕ → Progress → Answer
+extendAsks w secs s = extraAsks (extraNext w secs s)
 
 -- "What a question refuses as the cut list runs does nothing: a read, skip or extend is left out"
 unfoldable pub unlessRefused : Answer → Progress → Machine → Progress
@@ -140,7 +141,7 @@ unfoldable pub afterCall : Workout → TrainingProfile → Call → List Piece �
 afterCall w p (read sample) qs s = unlessRefused (readAsks sample) s (reading sample (s .machine))
 afterCall w p (ride ms mm kinds values) qs s = afterPieces w p kinds values qs s
 afterCall w p (skip kinds values) qs s = unlessRefused (skipAsks w kinds values s) s (skipped w (stepAt w (s .machine .step .position)) (s .machine))
-afterCall w p extend qs s = unlessRefused (extendAsks w s) s (withExtra (extraNext w s) (s .machine))
+afterCall w p (extend secs metres) qs s = unlessRefused (extendAsks w secs s) s (withExtra (extraNext w secs s) (s .machine))
 
 unfoldable pub afterCalls : Workout → TrainingProfile → List CutCall → Progress → Progress
 afterCalls w p [] s = s
@@ -157,7 +158,7 @@ unfoldable pub callAsks : Workout → TrainingProfile → Call → List Piece �
 callAsks w p (read sample) qs s = readAsks sample ∷ []
 callAsks w p (ride ms mm kinds values) qs s = piecesAsk w p kinds values qs s
 callAsks w p (skip kinds values) qs s = skipAsks w kinds values s ∷ []
-callAsks w p extend qs s = extendAsks w s ∷ []
+callAsks w p (extend secs metres) qs s = extendAsks w secs s ∷ []
 
 unfoldable pub callsAsk : Workout → TrainingProfile → List CutCall → Progress → List Answer
 callsAsk w p [] s = []

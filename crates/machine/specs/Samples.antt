@@ -80,10 +80,10 @@ pair test = workout test (step intensities.Test 2 Free ∷ step intensities.Test
 
 -- The same list, its rides cut otherwise.
 abbrev pub cutOnce : List CutCall
-cutOnce = readWatts 60 ∷ rideIn 500 200 300 ∷ other extend ∷ other (skip 193 193) ∷ []
+cutOnce = readWatts 60 ∷ rideIn 500 200 300 ∷ other (extend 60 500) ∷ other (extend 30 250) ∷ other (skip 193 193) ∷ []
 
 abbrev pub cutAgain : List CutCall
-cutAgain = readWatts 60 ∷ rideIn 500 0 500 ∷ other extend ∷ other (skip 193 193) ∷ []
+cutAgain = readWatts 60 ∷ rideIn 500 0 500 ∷ other (extend 60 500) ∷ other (extend 30 250) ∷ other (skip 193 193) ∷ []
 
 -- Events by document 01's numbers: "kinds (0 countdown, 1 started, 2 finished, 3 FTP) and 16-bit values (seconds, position, 0, watts)".
 abbrev pub event : ℕ → ℕ → Event
@@ -148,8 +148,13 @@ pub record Samples : Type 0 where
   -- a skipped step is marked, and gives no `Twenty` result
   pub skips : after (pair tests.Twenty) (readWatts 53 ∷ rideIn 1900 1000 900 ∷ other (skip 193 193) ∷ []) .given .events ≡ event 1 1 ∷ []
   pub marked : after (pair tests.Twenty) (readWatts 53 ∷ rideIn 1900 1000 900 ∷ other (skip 193 193) ∷ []) .given .skipped ≡ 1
-  -- 60 s more
-  pub longer : after single (other extend ∷ rideIn 3000 1500 1500 ∷ []) .step .time ≡ 3000
+  -- 60 s more, then 30
+  pub longer : after single (other (extend 60 500) ∷ other (extend 30 250) ∷ rideIn 3000 1500 1500 ∷ []) .step ≡ record { position = 0; time = 3000; extra = 90 }
+  -- 86,370 s of extra hold 30 s more and not 60; at the limit 0 s are let through and 1 s isn't, nor the most that a call can say
+  pub limits : callsAsk single profile (other (extend 86370 0) ∷ other (extend 60 500) ∷ other (extend 30 250) ∷ other (extend 0 0) ∷ other (extend 1 0) ∷ other (extend 4294967295 0) ∷ []) begun
+      ≡ Accepted ∷ Refused refusals.Extra ∷ Accepted ∷ Accepted ∷ Refused refusals.Extra ∷ Refused refusals.Extra ∷ []
+  -- the player's own: any amount of metres is nothing to a timed step
+  pub metres : called profile (extend 86400 4294967295) (newOf single .player) .answer ≡ Accepted
   -- a piece is refused 12, a skip without places 14, and neither does anything
   pub refused : callsAsk single profile (tooFar ∷ other (skip 3 2) ∷ []) begun
       ≡ Refused refusals.Update ∷ Accepted ∷ Refused refusals.EventPlaces ∷ []

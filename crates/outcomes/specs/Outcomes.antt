@@ -91,7 +91,7 @@ abbrev pub longerCore : ℕ → ℕ → Core → ExtendedCore
 longerCore secs metres c = record { answer = Accepted; core = withLap (extendedLap secs metres (c .lap)) c; extended = true }
 
 -- "Extend of an unfinished timed or distance step: its extra at most 86,400 s or 1,000,000 m after it? 15. Open .. gives `false`, no
--- refusal."
+-- refusal." The amount is the call's, and only that of the step's own unit counts.
 unfoldable pub extendCore : ℕ → ℕ → Length → Core → ExtendedCore
 extendCore secs metres (Time time) c =
     cond (leb (c .lap .«extra_s» + secs) 86400) (longerCore secs 0 c) (notLonger (Refused refusals.Extra) c)
@@ -109,8 +109,6 @@ unfoldable pub extendBy : ℕ → ℕ → Length → Player → Extended
 extendBy secs metres lasts p = extendedBy p (extendCore secs metres lasts (p .core))
 
 -- What `extend_core` supposes: extras within their limits.
-pub record ExtraFits (c : Core) (secs metres : ℕ) : Type 0 where
+pub record ExtraFits (c : Core) : Type 0 where
   pub extra-s : c .lap .«extra_s» ≤ 86400
   pub extra-m : c .lap .«extra_m» ≤ 1000000
-  pub secs-in : secs ≤ 86400
-  pub metres-in : metres ≤ 1000000

@@ -134,9 +134,10 @@ fn longer(core: Core, secs: u32, metres: u32) -> ExtendedCore
     }
 }
 
-// A touch of which only question 15 is to be asked: `secs` more of a timed step, `metres` more of a distance step.
+// An extend of which only question 15 is to be asked: `secs` more of a timed step, `metres` more of a distance step. What is left to the
+// limit is worked out, and no sum, since the amount may be any number of 32 bits.
 pub fn extend_core(core: Core, secs: u32, metres: u32) -> ExtendedCore
-    requires { ⌜ ExtraFits core secs metres ⌝ }
+    requires { ⌜ ExtraFits core ⌝ }
     ensures { λ r. ⌜ r ≡ extendCore secs metres (core .on .length) core ⌝ }
 {
     let lap = core.lap;
@@ -144,13 +145,13 @@ pub fn extend_core(core: Core, secs: u32, metres: u32) -> ExtendedCore
     let length = on.length;
     match length {
         Length::Time(_) => {
-            if lap.extra_s + secs <= 86400 {
+            if secs <= 86400 - lap.extra_s {
                 return longer(core, secs, 0);
             }
             core_as_before(core, Answer::Refused(Refusal::Extra))
         }
         Length::Distance(_) => {
-            if lap.extra_m + metres <= 1000000 {
+            if metres <= 1000000 - lap.extra_m {
                 return longer(core, 0, metres);
             }
             core_as_before(core, Answer::Refused(Refusal::Extra))
@@ -161,16 +162,16 @@ pub fn extend_core(core: Core, secs: u32, metres: u32) -> ExtendedCore
 
 // The same of a player.
 pub fn extend_by(player: Player, secs: u32, metres: u32) -> Extended
-    requires { ⌜ ExtraFits (player .core) secs metres ⌝ }
+    requires { ⌜ ExtraFits (player .core) ⌝ }
     ensures { λ r. ⌜ r ≡ extendBy secs metres (player .core .on .length) player ⌝ }
 {
     let core = player.core;
-    let touched = extend_core(core, secs, metres);
-    let answer = touched.answer;
-    let after = touched.core;
+    let made = extend_core(core, secs, metres);
+    let answer = made.answer;
+    let after = made.core;
     Extended {
         answer,
         player: with_core(player, after),
-        extended: touched.extended,
+        extended: made.extended,
     }
 }

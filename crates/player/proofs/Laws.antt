@@ -121,8 +121,8 @@ skip-supposes p k v e g =
       values-in = places-enough (p .core) k v g .1;
     }
 
--- what a touch supposes
-pub extra-fits : (p : Player) → standingOf p ≡ true → p .core .done ≡ false → ExtraFits (p .core) 60 500
+-- what an extend supposes
+pub extra-fits : (p : Player) → standingOf p ≡ true → p .core .done ≡ false → ExtraFits (p .core)
 extra-fits p e d =
     let c : Core = p .core in
     let below : Bool = belowEnd (c .on .length) (c .lap) in
@@ -132,8 +132,6 @@ extra-fits p e d =
     record {
       extra-s = leb-true (c .lap .«extra_s») 86400 (and-right below s (and-left (below && s) m h));
       extra-m = leb-true (c .lap .«extra_m») 1000000 (and-right (below && s) m h);
-      secs-in = omega arith;
-      metres-in = omega arith;
     }
 
 -- Add.

@@ -78,9 +78,20 @@ skipOf p kinds values = answered (skipAnswer p kinds values) p (skipNow p)
 
 -- Extend.
 
--- "Open or finished gives `false`"; player.rs: a touch adds 60 s or 500 m.
-abbrev pub extendNow : Bool → Player → Extended
-extendNow done p = cond done (notExtended Accepted p) (extendBy 60 500 (p .core .on .length) p)
+-- "Open or finished gives `false`", whatever the amount.
+abbrev pub extendNow : ℕ → ℕ → Bool → Player → Extended
+extendNow secs metres done p = cond done (notExtended Accepted p) (extendBy secs metres (p .core .on .length) p)
 
-unfoldable pub extendOf : Player → Extended
-extendOf p = cond (standingOf p) (extendNow (p .core .done) p) (notExtended (Refused refusals.Standing) p)
+-- "a call with the amount" (document 02, i): 20, then 15 of the step's own unit
+unfoldable pub extendWith : ℕ → ℕ → Player → Extended
+extendWith secs metres p = cond (standingOf p) (extendNow secs metres (p .core .done) p) (notExtended (Refused refusals.Standing) p)
+
+-- "The plain extend call now gives 30 s or 250 m." (document 02, i; it was 60 s or 500 m)
+abbrev pub defaultS : ℕ
+defaultS = 30
+
+abbrev pub defaultM : ℕ
+defaultM = 250
+
+abbrev pub extendOf : Player → Extended
+extendOf p = extendWith defaultS defaultM p

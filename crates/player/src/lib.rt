@@ -1,11 +1,11 @@
-// player.rs's calls that change the player: `read`, ride (the loop of `add` without its `read`), `add`, `skip` and `extend`, with
-// document 01's questions in their order. Each takes the player and gives it back.
+// player.rs's calls that change the player: `read`, ride (the loop of `add` without its `read`), `add`, `skip` and `extend`, by the
+// default or by an amount, with document 01's questions in their order. Each takes the player and gives it back.
 ghost use mathlib.Core.Path.{_≡_};
 ghost use Prim.Native.Nat.{_≤_};
 ghost use lib.ListN.{length};
 ghost use Rattle.zones.specs.Zones.{profileOk};
 ghost use Rattle.outcomes.specs.Outcomes.{Answers};
-ghost use Rattle.player.specs.Calls.{placesOk, updateAnswer, rideOf, readOf, skipOf, extendOf, addOf};
+ghost use Rattle.player.specs.Calls.{placesOk, updateAnswer, rideOf, readOf, skipOf, extendWith, extendOf, addOf};
 use outcomes::Extended;
 use outcomes::Update;
 use outcomes::extend_by;
@@ -26,10 +26,10 @@ use updates::ride_now;
 use updates::skip_now;
 use zones::TrainingProfile;
 
-// What a touch adds to the step on screen.
-pub const EXTEND_S: u32 = 60;
+// What `extend` adds to the step on now (document 02, i; the Rust's are 60 and 500).
+pub const EXTEND_S: u32 = 30;
 
-pub const EXTEND_M: u32 = 500;
+pub const EXTEND_M: u32 = 250;
 
 // Question 10.
 fn is_sound(profile: TrainingProfile) -> bool
@@ -155,9 +155,9 @@ pub fn skip(player: Player, kinds: &mut [u8], values: &mut [u16]) -> Update
     skip_now(player, kinds, values)
 }
 
-// Add time (or distance) to the step on now; open steps need none.
-pub fn extend(player: Player) -> Extended
-    ensures { λ r. ⌜ r ≡ extendOf player ⌝ }
+// Add `secs` (or `metres`) to the step on now; open steps need none.
+pub fn extend_with(player: Player, secs: u32, metres: u32) -> Extended
+    ensures { λ r. ⌜ r ≡ extendWith secs metres player ⌝ }
 {
     let core = player.core;
     if !is_standing(player) {
@@ -166,5 +166,12 @@ pub fn extend(player: Player) -> Extended
     if core.done {
         return not_extended(player, Answer::Accepted);
     }
-    extend_by(player, EXTEND_S, EXTEND_M)
+    extend_by(player, secs, metres)
+}
+
+// The handlebar button: the same by the default.
+pub fn extend(player: Player) -> Extended
+    ensures { λ r. ⌜ r ≡ extendOf player ⌝ }
+{
+    extend_with(player, EXTEND_S, EXTEND_M)
 }

@@ -51,7 +51,8 @@ quiet-in s n i = at (kindIn s i)
     at (suc zero) a b = absurd (a refl)
     at (suc (suc zero)) a b = absurd (b refl)
     at (suc (suc (suc zero))) a b = refl
-    at (suc (suc (suc (suc k)))) a b = refl
+    at (suc (suc (suc (suc zero)))) a b = refl
+    at (suc (suc (suc (suc (suc k))))) a b = refl
 
 -- The loop of a ride goes on while it has rounds left and is not stopped.
 pub goes-on : (j : ℕ) (stopped : Bool) (s : Ride) → stopped ≡ isStopped (s .core .done) (s .ms .0) → (ltb j 97 && not stopped) ≡ true

@@ -33,7 +33,7 @@ use Rattle.standing.proofs.Known.{known}
 use Rattle.outcomes.specs.Outcomes.{Called, ExtraFits, eventless, playerOf, notExtended, longerCore, notLonger, extendCore, extendedBy, extendBy}
 use Rattle.updates.specs.Updates.{begun, skipTo, skipNow}
 use Rattle.updates.proofs.Laws.{ride-idle, ride-made}
-use Rattle.player.specs.Calls.{readBy, readAnswer, readOf, updateAnswer, extendNow, extendOf}
+use Rattle.player.specs.Calls.{defaultS, defaultM, readBy, readAnswer, readOf, updateAnswer, extendNow, extendWith}
 use Rattle.player.proofs.Laws.{ride-refused, ride-taken, skip-taken, extra-fits}
 use Rattle.keeps.specs.Keeps.{PowerFits, PlayerFits}
 use Rattle.keeps.proofs.Fresh.{keeps-standing}
@@ -41,10 +41,10 @@ use Rattle.keeps.proofs.Places.{passes-193}
 use Rattle.machine.specs.Cutting.{read, ride, skip, extend}
 use Rattle.machine.specs.Runs.{ofRead, ofExtend, called}
 use Rattle.sheet.specs.declared.Act.{Act}
-use Rattle.sheet.specs.declared.Act.the-variants.{Profile, Read, Skip, Extend}
+use Rattle.sheet.specs.declared.Act.the-variants.{Profile, Read, Skip, ExtendLong, Extend}
 use Rattle.sheet.specs.declared.Act.the-variants as acts
 use Rattle.replay.specs.declared.Acted.{Acted}
-use Rattle.replay.specs.Acts.{actCalled, Ready, Acts, isQuiet, eventlessAct, skipOutcome, Skips, ofExtended, extendAct}
+use Rattle.replay.specs.Acts.{longS, longM, actCalled, Ready, Acts, isQuiet, eventlessAct, skipOutcome, Skips, ofExtended, extendAct}
 
 -- question 11, then the reading
 abbrev readAct : Sample → Core → Acted
@@ -96,26 +96,26 @@ module _ (w : Workout) (c : Core) (m ks vs : List ℕ) where
         subst (λ (b : Bool). Acts w m ks vs ks vs r (ofRead (readBy (ask b refusals.Standing (ask (cadenceIn (sample .«cadence_tenths»)) refusals.Cadence Accepted)) P sample)))
         (sym e) (reads-by (cadenceIn (sample .«cadence_tenths»)) sample r f)
 
-    extended-same : ofExtend (extendedBy P (extendCore 60 500 (c .on .length) c))
-        ≡ eventless (extendCore 60 500 (c .on .length) c .answer) (playerOf w (riding (extendCore 60 500 (c .on .length) c .core) m))
-    extended-same =
-        let x = extendCore 60 500 (c .on .length) c in
+    extended-same : (secs metres : ℕ) → ofExtend (extendedBy P (extendCore secs metres (c .on .length) c))
+        ≡ eventless (extendCore secs metres (c .on .length) c .answer) (playerOf w (riding (extendCore secs metres (c .on .length) c .core) m))
+    extended-same secs metres =
+        let x = extendCore secs metres (c .on .length) c in
         ap (λ (on : StepNow). eventless (x .answer) (record { core = x .core; workout = w; note = playerOf w (riding (record { position = c .position; steps = c .steps; «total_ms» = c .«total_ms»; «total_mm» = c .«total_mm»; lap = c .lap; measured = c .measured; summary = c .summary; on = on; readings = c .readings; done = c .done }) m) .note; minute = m }))
-        (sym (extend-on 60 500 (c .on .length) c))
+        (sym (extend-on secs metres (c .on .length) c))
 
-    extends-by : (d : Bool) (r : Acted) → r ≡ cond d (eventlessAct Accepted c) (ofExtended (extendCore 60 500 (c .on .length) c))
-        → Acts w m ks vs ks vs r (ofExtend (cond d (notExtended Accepted P) (extendBy 60 500 (c .on .length) P)))
+    extends-by : (secs metres : ℕ) (d : Bool) (r : Acted) → r ≡ cond d (eventlessAct Accepted c) (ofExtended (extendCore secs metres (c .on .length) c))
+        → Acts w m ks vs ks vs r (ofExtend (cond d (notExtended Accepted P) (extendBy secs metres (c .on .length) P)))
     unfolding extendBy
-    extends-by true r f = none-acts r Accepted c (ofExtend (notExtended Accepted P)) f refl
-    extends-by false r f =
-        let x = extendCore 60 500 (c .on .length) c in
-        none-acts r (x .answer) (x .core) (ofExtend (extendedBy P x)) f (sym extended-same)
+    extends-by secs metres true r f = none-acts r Accepted c (ofExtend (notExtended Accepted P)) f refl
+    extends-by secs metres false r f =
+        let x = extendCore secs metres (c .on .length) c in
+        none-acts r (x .answer) (x .core) (ofExtend (extendedBy P x)) f (sym (extended-same secs metres))
 
-    pub extend-acts : (r : Acted) → r ≡ extendAct c → Acts w m ks vs ks vs r (called p extend P)
-    unfolding called extendOf
-    extend-acts r f =
-        subst (λ (b : Bool). Acts w m ks vs ks vs r (ofExtend (cond b (extendNow (c .done) P) (notExtended (Refused refusals.Standing) P)))) (sym e)
-        (extends-by (c .done) r f)
+    pub extend-acts : (secs metres : ℕ) (r : Acted) → r ≡ extendAct secs metres c → Acts w m ks vs ks vs r (called p (extend secs metres) P)
+    unfolding called extendWith
+    extend-acts secs metres r f =
+        subst (λ (b : Bool). Acts w m ks vs ks vs r (ofExtend (cond b (extendNow secs metres (c .done) P) (notExtended (Refused refusals.Standing) P)))) (sym e)
+        (extends-by secs metres (c .done) r f)
 
     skips-by : (d : Bool) (ks' vs' : List ℕ) (r : Acted) → Skips ks vs ks' vs' r (cond d (record { core = c; events = [] }) (nextOf w true c))
         → Acts w m ks vs ks' vs' r (cond d (eventless Accepted P) (skipTo P (nextOf w true c)))
@@ -150,7 +150,7 @@ module _ (w : Workout) (c : Core) (m ks vs : List ℕ) where
   pub ready-next : Ready w c m → NextFits c
   ready-next h = next-fits 0 0 w c (known P (h .stands) .core .within)
 
-  pub ready-extra : Ready w c m → c .done ≡ false → ExtraFits c 60 500
+  pub ready-extra : Ready w c m → c .done ≡ false → ExtraFits c
   ready-extra h d = extra-fits P (h .stands) d
 
 -- A skip's outcome, when finished and before.
@@ -179,7 +179,8 @@ act-kept p (Profile f) player fits e = e
 act-kept p (Read sample) player fits e = keeps-standing .read player sample e
 act-kept p (acts.Ride ms mm) player fits e = keeps-standing .ride player (ms .0) (mm .0) p 193 193 fits e
 act-kept p Skip player fits e = keeps-standing .skip player 193 193 fits e
-act-kept p Extend player fits e = keeps-standing .extend player e
+act-kept p ExtendLong player fits e = keeps-standing .extend player longS longM e
+act-kept p Extend player fits e = keeps-standing .extend player defaultS defaultM e
 
 -- an act that is known, and the core that is ready for the next one
 pub played : (w : Workout) (p : TrainingProfile) (act known-as : Act) (c : Core) (m m' ks vs ks' vs' : List ℕ) (r : Acted) → Ready w c m

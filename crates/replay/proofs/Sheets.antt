@@ -34,7 +34,7 @@ use Rattle.history.specs.Record.{recordSize}
 use Rattle.record_writer.specs.Write.{writeAnswer, outputBy, outputOf}
 use Rattle.machine.specs.Runs.{run}
 use Rattle.sheet.specs.declared.Act.{Act}
-use Rattle.sheet.specs.declared.Act.the-variants.{Profile, Read, Skip, Extend}
+use Rattle.sheet.specs.declared.Act.the-variants.{Profile, Read, Skip, ExtendLong, Extend}
 use Rattle.sheet.specs.declared.Act.the-variants as variants
 use Rattle.sheet.specs.declared.ActAnswer.{ActAnswer}
 use Rattle.sheet.specs.declared.ActOption.the-variants.{None, Some}
@@ -162,6 +162,7 @@ acts-ridden w p (act ∷ acts) i q e =
     one (Read sample) = refl
     one (variants.Ride ms mm) = refl
     one Skip = refl
+    one ExtendLong = refl
     one Extend = refl
 
 pub name-passes : (w : Workout) → workoutAnswer w ≡ Accepted → nameOk (w .name) ≡ true

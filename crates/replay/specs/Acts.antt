@@ -20,10 +20,11 @@ use Rattle.standing.specs.Standing.{standingOf}
 use Rattle.start.specs.Start.{noSummary}
 use Rattle.outcomes.specs.declared.ExtendedCore.{ExtendedCore}
 use Rattle.outcomes.specs.Outcomes.{Called, eventless, playerOf, extendCore}
+use Rattle.player.specs.Calls.{defaultS, defaultM}
 use Rattle.machine.specs.Cutting.{Call, read, ride, skip, extend}
 use Rattle.machine.specs.Runs.{called}
 use Rattle.sheet.specs.declared.Act.{Act}
-use Rattle.sheet.specs.declared.Act.the-variants.{Profile, Read, Ride, Skip, Extend}
+use Rattle.sheet.specs.declared.Act.the-variants.{Profile, Read, Ride, Skip, ExtendLong, Extend}
 use Rattle.sheet.specs.declared.ActAnswer.{ActAnswer}
 use Rattle.sheet.specs.declared.ActOption.the-variants.{None, Some}
 use Rattle.sheet.specs.Sheet.{acceptedAll}
@@ -34,13 +35,22 @@ use Rattle.replay.specs.declared.Ridden.{Ridden}
 abbrev pub places : ℕ
 places = 193
 
--- The call that an act stands for. Question 17 lets a profile through as the first act alone, and that one is no call.
+-- Document 02, i: "kind 4 keeps 60 s and 500 m through a call with the amount".
+abbrev pub longS : ℕ
+longS = 60
+
+abbrev pub longM : ℕ
+longM = 500
+
+-- The call that an act stands for. Question 17 lets a profile through as the first act alone, and that one is no call. "a new kind 5
+-- means the default"
 unfoldable pub actCalled : TrainingProfile → Act → Player → Called
 actCalled p (Profile f) player = eventless Accepted player
 actCalled p (Read sample) player = called p (read sample) player
 actCalled p (Ride ms mm) player = called p (ride (ms .0) (mm .0) places places) player
 actCalled p Skip player = called p (skip places places) player
-actCalled p Extend player = called p extend player
+actCalled p ExtendLong player = called p (extend longS longM) player
+actCalled p Extend player = called p (extend defaultS defaultM) player
 
 -- Acts in a row.
 
@@ -79,7 +89,8 @@ callsOf (Profile f ∷ acts) = callsOf acts
 callsOf (Read sample ∷ acts) = read sample ∷ callsOf acts
 callsOf (Ride ms mm ∷ acts) = ride (ms .0) (mm .0) places places ∷ callsOf acts
 callsOf (Skip ∷ acts) = skip places places ∷ callsOf acts
-callsOf (Extend ∷ acts) = extend ∷ callsOf acts
+callsOf (ExtendLong ∷ acts) = extend longS longM ∷ callsOf acts
+callsOf (Extend ∷ acts) = extend defaultS defaultM ∷ callsOf acts
 
 -- What the functions that play an act suppose and give. The player is that of its core and minute.
 
@@ -102,6 +113,7 @@ isQuiet (Profile f) = true
 isQuiet (Read sample) = false
 isQuiet (Ride ms mm) = false
 isQuiet Skip = true
+isQuiet ExtendLong = true
 isQuiet Extend = true
 
 -- Once nothing is left to be asked, a skip does nothing when finished, and else ends the step.
@@ -116,5 +128,5 @@ pub record Skips (ks vs ks' vs' : List ℕ) (r : Acted) (o : Outcome) : Type 0 w
 abbrev pub ofExtended : ExtendedCore → Acted
 ofExtended r = eventlessAct (r .answer) (r .core)
 
-abbrev pub extendAct : Core → Acted
-extendAct c = cond (c .done) (eventlessAct Accepted c) (ofExtended (extendCore 60 500 (c .on .length) c))
+abbrev pub extendAct : ℕ → ℕ → Core → Acted
+extendAct secs metres c = cond (c .done) (eventlessAct Accepted c) (ofExtended (extendCore secs metres (c .on .length) c))

@@ -50,6 +50,11 @@ use step_end::is_over;
 use step_end::next;
 use zones::TrainingProfile;
 
+// What the longer extend of a sheet adds to the step on now.
+const LONG_S: u32 = 60;
+
+const LONG_M: u32 = 500;
+
 // What a sheet came to: the answer, and what the record takes from workout and player; refused, nothing.
 pub struct Ridden {
     pub outcome: ActAnswer,
@@ -91,16 +96,16 @@ fn skip_act(workout: Workout, core: Core, kinds: &mut [u8], values: &mut [u16]) 
     }
 }
 
-fn extend_act(core: Core) -> Acted
-    requires { ⌜ (core .done ≡ false → ExtraFits core 60 500) ⌝ }
-    ensures { λ r. ⌜ r ≡ extendAct core ⌝ }
+fn extend_act(core: Core, secs: u32, metres: u32) -> Acted
+    requires { ⌜ (core .done ≡ false → ExtraFits core) ⌝ }
+    ensures { λ r. ⌜ r ≡ extendAct secs metres core ⌝ }
 {
     if core.done {
         return eventless(core, Answer::Accepted);
     }
-    let touched = extend_core(core, EXTEND_S, EXTEND_M);
-    let answer = touched.answer;
-    let after = touched.core;
+    let made = extend_core(core, secs, metres);
+    let answer = made.answer;
+    let after = made.core;
     eventless(after, answer)
 }
 
@@ -128,7 +133,8 @@ fn quiet_act(
         Act::Read(_) => eventless(core, Answer::Accepted),
         Act::Ride(_, _) => eventless(core, Answer::Accepted),
         Act::Skip => skip_act(workout, core, kinds, values),
-        Act::Extend => extend_act(core),
+        Act::ExtendLong => extend_act(core, LONG_S, LONG_M),
+        Act::Extend => extend_act(core, EXTEND_S, EXTEND_M),
     }
 }
 

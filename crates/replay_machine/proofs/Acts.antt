@@ -33,7 +33,7 @@ use Rattle.machine.specs.ThirdDemand.{isPlain, machineRecord}
 use Rattle.machine.proofs.Scope.{Held}
 use Rattle.machine.proofs.Demand.{summary-alone}
 use Rattle.sheet.specs.declared.Act.{Act}
-use Rattle.sheet.specs.declared.Act.the-variants.{Profile, Read, Skip, Extend}
+use Rattle.sheet.specs.declared.Act.the-variants.{Profile, Read, Skip, ExtendLong, Extend}
 use Rattle.sheet.specs.declared.Act.the-variants as variants
 use Rattle.sheet.specs.Sheet.{countIn, flagsAt, placeOf, kindIn, actsAt, actIn, actsFrom}
 use Rattle.replay.specs.declared.Ridden.{Ridden}
@@ -65,7 +65,8 @@ module _ (s : List ℕ) (b : Bytes s) where
   at-kind at (suc zero) = (present-fits (flagSet (flagsAt s at) 1) (numberOf (part s at 2)) (two-bytes (drop at s) (bytes-drop at s b)), tt)
   at-kind at (suc (suc zero)) = (tt, tt)
   at-kind at (suc (suc (suc zero))) = (tt, tt)
-  at-kind at (suc (suc (suc (suc k)))) = (tt, tt)
+  at-kind at (suc (suc (suc (suc zero)))) = (tt, tt)
+  at-kind at (suc (suc (suc (suc (suc k))))) = (tt, tt)
 
   act-fits : (n i : ℕ) → Fits (actIn s n i)
   unfolding actIn
@@ -77,6 +78,7 @@ module _ (s : List ℕ) (b : Bytes s) where
   joined (Read sample) acts h k = (h .0, k)
   joined (variants.Ride ms mm) acts h k = (h .0, k)
   joined Skip acts h k = (tt, k)
+  joined ExtendLong acts h k = (tt, k)
   joined Extend acts h k = (tt, k)
 
   from-fits : (n i k : ℕ) → ReadsFit (alone (callsOf (actsFrom s n i k)))

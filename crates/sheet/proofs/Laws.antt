@@ -2,7 +2,7 @@
 use mathlib.Core.Path.{_≡_, refl, sym, ap, _∙_}
 use mathlib.Core.Bool.{Bool, true, false, cond, _&&_, and-false}
 use mathlib.Core.List.{List}
-use Prim.Native.Nat.{ℕ, suc, _+_, _-_, _*_, _≤_, _<_}
+use Prim.Native.Nat.{ℕ, zero, suc, _+_, _-_, _*_, _≤_, _<_}
 use native.Mathlib.Omega.{arith}
 use lib.Dec.{leb, eqb}
 use lib.ListN.{length}
@@ -12,7 +12,7 @@ use Rattle.refusal.specs.declared.Answer.the-variants.{Accepted, Refused}
 use Rattle.refusal.specs.declared.Refusal.the-variants as refusals
 use Rattle.sheet.specs.declared.ActAnswer.{ActAnswer}
 use Rattle.sheet.specs.declared.ActOption.the-variants.{None, Some}
-use Rattle.sheet.specs.Sheet.{countIn, sizeOk, actOk, faultFrom, acceptedAll, refusedAt, faultAnswer, checkOf}
+use Rattle.sheet.specs.Sheet.{countIn, sizeOk, valuelessOk, actBy, actOk, faultFrom, acceptedAll, refusedAt, faultAnswer, checkOf}
 
 -- What question 16 says of a sheet that passes it.
 pub record Sized (s : List ℕ) : Type 0 where
@@ -73,6 +73,16 @@ module _ (s : List ℕ) where
   pub no-fault : (n fault : ℕ) → sizeOk s ≡ true → n ≡ countIn s → fault ≡ faultFrom s n 0 n → n ≤ fault → acceptedAll ≡ checkOf s
   no-fault n fault e c f h =
       sym (ap (λ (b : Bool). cond {A = ActAnswer} b (refusedAt refusals.Act (Some fault)) acceptedAll) (le-ltb fault n h)) ∙ check-at n fault e c f
+
+-- kinds 3 to 5
+pub valueless : (first : Bool) (s : List ℕ) (at kind : ℕ) → 3 ≤ kind → kind < 6 → actBy first s at kind ≡ valuelessOk first s at
+valueless first s at zero h g = absurd (omega arith)
+valueless first s at (suc zero) h g = absurd (omega arith)
+valueless first s at (suc (suc zero)) h g = absurd (omega arith)
+valueless first s at (suc (suc (suc zero))) h g = refl
+valueless first s at (suc (suc (suc (suc zero)))) h g = refl
+valueless first s at (suc (suc (suc (suc (suc zero))))) h g = refl
+valueless first s at (suc (suc (suc (suc (suc (suc kind)))))) h g = absurd (omega arith)
 
 -- the first act at fault, from place i on
 module _ (s : List ℕ) (n i : ℕ) where

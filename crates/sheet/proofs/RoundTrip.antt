@@ -20,10 +20,10 @@ use Rattle.power.specs.Power.{orZero, readingAt}
 use Rattle.readings.specs.declared.Sample.{Sample}
 use Rattle.readings.specs.Readings.{flagSet}
 use Rattle.sheet.specs.declared.Act.{Act}
-use Rattle.sheet.specs.declared.Act.the-variants.{Profile, Read, Ride, Skip, Extend}
+use Rattle.sheet.specs.declared.Act.the-variants.{Profile, Read, Ride, Skip, ExtendLong, Extend}
 use Rattle.sheet.specs.declared.ActAnswer.{ActAnswer}
 use Rattle.sheet.specs.declared.ActOption.the-variants as numbers
-use Rattle.sheet.specs.Sheet.{word2, word4, countIn, sizeOk, kindIn, placeOf, profileAt, flagsAt, sampleAt, actsAt, actIn, actsFrom, absentOk, sampleOk, unusedAt, actBy, actOk, faultFrom, acceptedAll, refusedAt, faultAnswer, checkOf}
+use Rattle.sheet.specs.Sheet.{word2, word4, countIn, sizeOk, kindIn, placeOf, profileAt, flagsAt, sampleAt, actsAt, actIn, actsFrom, absentOk, sampleOk, unusedAt, valuelessOk, actBy, actOk, faultFrom, acceptedAll, refusedAt, faultAnswer, checkOf}
 use Rattle.sheet.specs.Bytes.{kindOf, flagIf, flagsOf, valueOf, sheetBytes, isProfile, isCall, opens, ActFits, AllFit, IsSheet}
 use Rattle.sheet.specs.RoundTrip.{actsOf, WrittenIsRead, ReadIsWritten}
 use Rattle.sheet.proofs.Laws.{Sized, sized, accepted-sized, no-fault}
@@ -122,6 +122,7 @@ value-again (Read s) h = ap Read (read-again s h)
 value-again (Ride ms mm) h =
     unfold valueOf bytesOf in λ i. Ride (record { 0 = number-bytes 4 (ms .0) (h .0) i }) (record { 0 = number-bytes 4 (mm .0) (h .1) i })
 value-again Skip h = refl
+value-again ExtendLong h = refl
 value-again Extend h = refl
 
 value-passes : (act : Act) → ActFits act → actBy (isProfile act) (valueOf act) 0 (kindOf act) ≡ true
@@ -129,6 +130,7 @@ value-passes (Profile p) h = unfold valueOf bytesOf numberOf in refl
 value-passes (Read s) h = read-passes s h
 value-passes (Ride ms mm) h = refl
 value-passes Skip h = unfold valueOf numberOf in refl
+value-passes ExtendLong h = unfold valueOf numberOf in refl
 value-passes Extend h = unfold valueOf numberOf in refl
 
 value-length : (act : Act) → length (valueOf act) ≡ 8
@@ -137,6 +139,7 @@ value-length (Profile p) = refl
 value-length (Read s) = refl
 value-length (Ride ms mm) = refl
 value-length Skip = refl
+value-length ExtendLong = refl
 value-length Extend = refl
 
 -- One act of a sheet, by its kind byte and its value.
@@ -388,6 +391,16 @@ module _ (v : List ℕ) (b : Bytes v) (e : length v ≡ 8) where
   not-back true z = z
   not-back false z = refl
 
+  -- skip and both extends
+  valueless-back : (f : Bool) (act : Act) → valueOf act ≡ replicate 8 0 → isProfile act ≡ false → ActFits act → valuelessOk f v 0 ≡ true → Back f (kindOf act) v act
+  valueless-back f act value call fits h =
+      record {
+        kind-is = refl;
+        value-is = value ∙ none-back (and-right (not f) (unusedAt v 0 && unusedAt v 4) h);
+        profile-is = call ∙ not-back f (and-left (not f) (unusedAt v 0 && unusedAt v 4) h);
+        act-fits = fits;
+      }
+
   value-back : (f : Bool) (kind : ℕ) → actBy f v 0 kind ≡ true → Back f kind v (getD (actsAt v 0) kind Extend)
   value-back f zero h =
       record {
@@ -409,21 +422,10 @@ module _ (v : List ℕ) (b : Bytes v) (e : length v ≡ 8) where
       }
   value-back f (suc (suc zero)) h =
       record { kind-is = refl; value-is = ride-back; profile-is = not-back f h; act-fits = (number-small 0 4 (omega arith), number-small 4 4 (omega arith)) }
-  value-back f (suc (suc (suc zero))) h =
-      record {
-        kind-is = refl;
-        value-is = unfold valueOf in none-back (and-right (not f) (unusedAt v 0 && unusedAt v 4) h);
-        profile-is = not-back f (and-left (not f) (unusedAt v 0 && unusedAt v 4) h);
-        act-fits = tt;
-      }
-  value-back f (suc (suc (suc (suc zero)))) h =
-      record {
-        kind-is = refl;
-        value-is = unfold valueOf in none-back (and-right (not f) (unusedAt v 0 && unusedAt v 4) h);
-        profile-is = not-back f (and-left (not f) (unusedAt v 0 && unusedAt v 4) h);
-        act-fits = tt;
-      }
-  value-back f (suc (suc (suc (suc (suc kind))))) h = let z : _≡_ {A = ℕ} 0 1 = cc in absurd (omega arith)
+  value-back f (suc (suc (suc zero))) h = unfold valueOf in valueless-back f Skip refl refl tt h
+  value-back f (suc (suc (suc (suc zero)))) h = unfold valueOf in valueless-back f ExtendLong refl refl tt h
+  value-back f (suc (suc (suc (suc (suc zero))))) h = unfold valueOf in valueless-back f Extend refl refl tt h
+  value-back f (suc (suc (suc (suc (suc (suc kind)))))) h = let z : _≡_ {A = ℕ} 0 1 = cc in absurd (omega arith)
 
 -- Acts in a row, from place i on: their bytes are the sheet's, and those after the first are calls.
 pub record RowBack (s : List ℕ) (n i k : ℕ) (acts : List Act) : Type 0 where

@@ -11,15 +11,16 @@ use Rattle.power.specs.declared.ReadingOption.the-variants.{None, Some}
 use Rattle.power.specs.Power.{orZero}
 use Rattle.readings.specs.declared.Sample.{Sample}
 use Rattle.sheet.specs.declared.Act.{Act}
-use Rattle.sheet.specs.declared.Act.the-variants.{Profile, Read, Ride, Skip, Extend}
+use Rattle.sheet.specs.declared.Act.the-variants.{Profile, Read, Ride, Skip, ExtendLong, Extend}
 
--- "Kind 0 profile ..; 1 read ..; 2 ride ..; 3 skip; 4 extend."
+-- "Kind 0 profile ..; 1 read ..; 2 ride ..; 3 skip; 4 extend." Document 02, i: "kind 4 keeps 60 s and 500 m ..", "a new kind 5".
 abbrev pub kindOf : Act → ℕ
 kindOf (Profile p) = 0
 kindOf (Read sample) = 1
 kindOf (Ride ms mm) = 2
 kindOf Skip = 3
-kindOf Extend = 4
+kindOf ExtendLong = 4
+kindOf Extend = 5
 
 -- "flag values 1, 2, 4 say which are present"
 abbrev pub flagIf : ReadingOption → ℕ → ℕ
@@ -38,6 +39,7 @@ valueOf (Read s) =
     ++ (bytesOf 2 (orZero (s .«heart_bpm»)) ++ (bytesOf 2 (orZero (s .«cadence_tenths»)) ++ bytesOf 2 (flagsOf s)))
 valueOf (Ride ms mm) = bytesOf 4 (ms .0) ++ bytesOf 4 (mm .0)
 valueOf Skip = replicate 8 0
+valueOf ExtendLong = replicate 8 0
 valueOf Extend = replicate 8 0
 
 -- "a 2-byte count n .., then n kind bytes, then n values of 8 bytes"
@@ -51,6 +53,7 @@ isProfile (Profile p) = true
 isProfile (Read sample) = false
 isProfile (Ride ms mm) = false
 isProfile Skip = false
+isProfile ExtendLong = false
 isProfile Extend = false
 
 abbrev pub isCall : Act → Bool
@@ -67,6 +70,7 @@ ActFits (Profile p) = (p .«ftp_watts» < 65536) × (p .«lthr_bpm» < 65536)
 ActFits (Read s) = (orZero (s .«power_watts») < 65536) × (orZero (s .«heart_bpm») < 65536) × (orZero (s .«cadence_tenths») < 65536)
 ActFits (Ride ms mm) = (ms .0 < 4294967296) × (mm .0 < 4294967296)
 ActFits Skip = Unit
+ActFits ExtendLong = Unit
 ActFits Extend = Unit
 
 abbrev pub AllFit : List Act → Type 0

@@ -7,7 +7,7 @@ use Rattle.le.specs.Le.{Bytes}
 use Rattle.refusal.specs.declared.Answer.the-variants.{Accepted}
 use Rattle.power.specs.declared.ReadingOption.the-variants as readings
 use Rattle.sheet.specs.declared.Act.{Act}
-use Rattle.sheet.specs.declared.Act.the-variants.{Profile, Read, Ride, Skip, Extend}
+use Rattle.sheet.specs.declared.Act.the-variants.{Profile, Read, Ride, Skip, ExtendLong, Extend}
 use Rattle.sheet.specs.Sheet.{countIn, actsFrom, acceptedAll, checkOf}
 use Rattle.sheet.specs.Bytes.{sheetBytes, IsSheet}
 
@@ -28,15 +28,16 @@ abbrev pub sample : List Act
 sample =
     Profile (record { «ftp_watts» = 200; «lthr_bpm» = 160 })
     ∷ Read (record { «power_watts» = readings.Some 150; «heart_bpm» = readings.None; «cadence_tenths» = readings.Some 900 })
-    ∷ Ride (record { 0 = 10000 }) (record { 0 = 70000 }) ∷ Skip ∷ Extend ∷ []
+    ∷ Ride (record { 0 = 10000 }) (record { 0 = 70000 }) ∷ Skip ∷ ExtendLong ∷ Extend ∷ []
 
 pub record SampleSheet : Type 0 where
   pub is : IsSheet sample
   pub bytes : sheetBytes sample
-      ≡ 5 ∷ 0
-      ∷ 0 ∷ 1 ∷ 2 ∷ 3 ∷ 4
+      ≡ 6 ∷ 0
+      ∷ 0 ∷ 1 ∷ 2 ∷ 3 ∷ 4 ∷ 5
       ∷ 200 ∷ 0 ∷ 160 ∷ 0 ∷ 0 ∷ 0 ∷ 0 ∷ 0
       ∷ 150 ∷ 0 ∷ 0 ∷ 0 ∷ 132 ∷ 3 ∷ 5 ∷ 0
       ∷ 16 ∷ 39 ∷ 0 ∷ 0 ∷ 112 ∷ 17 ∷ 1 ∷ 0
+      ∷ 0 ∷ 0 ∷ 0 ∷ 0 ∷ 0 ∷ 0 ∷ 0 ∷ 0
       ∷ 0 ∷ 0 ∷ 0 ∷ 0 ∷ 0 ∷ 0 ∷ 0 ∷ 0
       ∷ 0 ∷ 0 ∷ 0 ∷ 0 ∷ 0 ∷ 0 ∷ 0 ∷ 0 ∷ []

@@ -14,7 +14,7 @@ use Rattle.readings.specs.declared.Sample.{Sample}
 use Rattle.power.specs.Power.{readingAt}
 use Rattle.readings.specs.Readings.{flagSet}
 use Rattle.sheet.specs.declared.Act.{Act}
-use Rattle.sheet.specs.declared.Act.the-variants.{Profile, Read, Ride, Skip, Extend}
+use Rattle.sheet.specs.declared.Act.the-variants.{Profile, Read, Ride, Skip, ExtendLong, Extend}
 use Rattle.sheet.specs.declared.ActOption.{ActOption}
 use Rattle.sheet.specs.declared.ActOption.the-variants.{None, Some}
 use Rattle.sheet.specs.declared.ActAnswer.{ActAnswer}
@@ -60,10 +60,12 @@ sampleAt s at =
       «cadence_tenths» = readingAt (flagSet (flagsAt s at) 4) (word2 s (at + 4));
     }
 
--- "Kind 0 profile ..; 1 read ..; 2 ride (4-byte ms, 4-byte mm); 3 skip; 4 extend."
+-- "Kind 0 profile ..; 1 read ..; 2 ride (4-byte ms, 4-byte mm); 3 skip; 4 extend." Document 02, i: "kind 4 keeps 60 s and 500 m ..,
+-- and a new kind 5 means the default".
 abbrev pub actsAt : List ℕ → ℕ → List Act
 actsAt s at =
-    Profile (profileAt s at) ∷ Read (sampleAt s at) ∷ Ride (record { 0 = word4 s at }) (record { 0 = word4 s (at + 4) }) ∷ Skip ∷ []
+    Profile (profileAt s at) ∷ Read (sampleAt s at) ∷ Ride (record { 0 = word4 s at }) (record { 0 = word4 s (at + 4) })
+    ∷ Skip ∷ ExtendLong ∷ []
 
 unfoldable pub actIn : List ℕ → ℕ → ℕ → Act
 actIn s n i = getD (actsAt s (placeOf n i)) (kindIn s i) Extend
@@ -91,15 +93,17 @@ sampleOk s at =
 abbrev pub unusedAt : List ℕ → ℕ → Bool
 unusedAt s at = eqb (word4 s at) 0
 
+-- skip and both extends: all eight
+abbrev pub valuelessOk : Bool → List ℕ → ℕ → Bool
+valuelessOk first s at = not first && (unusedAt s at && unusedAt s (at + 4))
+
 -- "(the first act and no other)": the first act is a profile, and no later one is
 abbrev pub actBy : Bool → List ℕ → ℕ → ℕ → Bool
 actBy first s at kind =
     getD
     ((first && unusedAt s (at + 4))
     ∷ (not first && sampleOk s at)
-    ∷ not first
-    ∷ (not first && (unusedAt s at && unusedAt s (at + 4)))
-    ∷ (not first && (unusedAt s at && unusedAt s (at + 4))) ∷ []) kind false
+    ∷ not first ∷ valuelessOk first s at ∷ valuelessOk first s at ∷ valuelessOk first s at ∷ []) kind false
 
 -- "Each act well formed? 17."
 unfoldable pub actOk : List ℕ → ℕ → ℕ → Bool

@@ -28,6 +28,9 @@ pub enum Act {
     Read(Sample),
     Ride(Ms, Mm),
     Skip,
+    // By 60 s or 500 m.
+    ExtendLong,
+    // By the player's default.
     Extend,
 }
 
@@ -148,8 +151,7 @@ fn is_act(sheet: &[u8], n: usize, i: usize) -> bool
         0 => first & is_unused(sheet, at + 4),
         1 => !first & is_sample(sheet, at),
         2 => !first,
-        3 => !first & unused,
-        4 => !first & unused,
+        3..=5 => !first & unused,
         _ => false,
     }
 }
@@ -200,6 +202,7 @@ pub fn act_at(sheet: &[u8], n: usize, i: usize) -> Act
             Act::Ride(Ms(ms), Mm(mm))
         }
         3 => Act::Skip,
+        4 => Act::ExtendLong,
         _ => Act::Extend,
     }
 }

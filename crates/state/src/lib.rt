@@ -203,7 +203,7 @@ impl Lap {
         self.distance_m(metres) * 1000
     }
 
-    // A touch: 60 s more of a timed step, 500 m more of a distance step.
+    // The step on now made longer, by seconds or by metres.
     pub fn extended(self, extra_s: u32, extra_m: u32) -> Lap
         requires { ⌜ (self .«extra_s» + «extra_s» ≤ 86400) × (self .«extra_m» + «extra_m» ≤ 1000000) ⌝ }
         ensures { λ r. ⌜ r ≡ extendedLap «extra_s» «extra_m» self ⌝ }

@@ -14,17 +14,23 @@ ride-requires c κs = search needs
 skip-requires : tie.Need-skip-requires
 skip-requires c κs = search needs
 
-extend-requires : tie.Need-extend-requires
-extend-requires c κs = search needs
+extend-with-requires : tie.Need-extend-with-requires
+extend-with-requires c κs = search needs
 
 with-check-requires : tie.Need-with-check-requires
 with-check-requires c κs = search needs
 
-read-requires : tie.Need-read-requires
-read-requires c κs = search needs
+extend-requires : tie.Need-extend-requires
+extend-requires c κs = search needs
 
 with-check-requires-2 : tie.Need-with-check-requires-2
 with-check-requires-2 c κs = search needs
+
+read-requires : tie.Need-read-requires
+read-requires c κs = search needs
+
+with-check-requires-3 : tie.Need-with-check-requires-3
+with-check-requires-3 c κs = search needs
 
 returns : tie.Need-returns
 unfolding playedCut
@@ -38,14 +44,21 @@ returns-3 : tie.Need-returns-3
 unfolding playedCut
 returns-3 c = let a = c .before .before .before .args in
     c .with-check .ensures
-    ∙ ap (λ (t : Turn). withCheck t (a .check)) (c .before .extend .ensures)
+    ∙ ap (λ (t : Turn). withCheck t (a .check)) (c .before .extend-with .ensures)
     ∙ sym (ap (λ (k : ℕ). playedBy k (a .player) (a .call) (a .check)) (c .before .before .match .keys3))
 
 returns-4 : tie.Need-returns-4
 unfolding playedCut
 returns-4 c = let a = c .before .before .before .args in
+    c .with-check2 .ensures
+    ∙ ap (λ (t : Turn). withCheck t (a .check)) (c .before .extend .ensures)
+    ∙ sym (ap (λ (k : ℕ). playedBy k (a .player) (a .call) (a .check)) (c .before .before .match .keys4))
+
+returns-5 : tie.Need-returns-5
+unfolding playedCut
+returns-5 c = let a = c .before .before .before .args in
     let m = c .before .before .match .rest in
-    simp (ne-eqb _ _ (m .0 .0 .1), ne-eqb _ _ (m .0 .1), ne-eqb _ _ (m .1)) (c .with-check2 .ensures ∙ ap (λ (t : Turn). withCheck t (a .check)) (c .before .read .ensures))
+    simp (ne-eqb _ _ (m .0 .0 .0 .1), ne-eqb _ _ (m .0 .0 .1), ne-eqb _ _ (m .0 .1), ne-eqb _ _ (m .1)) (c .with-check3 .ensures ∙ ap (λ (t : Turn). withCheck t (a .check)) (c .before .read .ensures))
 
 pub play-spec : {M : Type 1} → statement M
 play-spec =
@@ -53,11 +66,14 @@ play-spec =
     (tie.spec
     ride-requires
     skip-requires
-    extend-requires
+    extend-with-requires
     with-check-requires
-    read-requires
+    extend-requires
     with-check-requires-2
+    read-requires
+    with-check-requires-3
     returns
     returns-2
     returns-3
-    returns-4)
+    returns-4
+    returns-5)

@@ -1,5 +1,5 @@
 -- `compare_player::extend` plays one `extend`, from what it ensures.
-use mathlib.Core.Path.{ap}
+use mathlib.Core.Path.{_∙_, ap}
 use borrow.Author.Needs.{needs}
 use Rattle.compare_player.specs.Calls.{extendedTurn}
 use Rattle.compare_player.proofs.extend.Statement.{statement}
@@ -8,11 +8,11 @@ use Rattle.compare_player.proofs.extend.Tie as tie
 extend-requires : tie.Need-extend-requires
 extend-requires c κs = search needs
 
-refused-number-requires : tie.Need-refused-number-requires
-refused-number-requires c κs = search needs
+extended-turn-requires : tie.Need-extended-turn-requires
+extended-turn-requires c κs = search needs
 
 returns : tie.Need-returns
-returns c = simp (c .refused-number .ensures) (ap extendedTurn (c .before .before .extend .ensures))
+returns c = c .extended-turn .ensures ∙ ap extendedTurn (c .before .extend .ensures)
 
 pub extend-spec : {M : Type 1} → statement M
-extend-spec = tie.close (tie.spec extend-requires refused-number-requires returns)
+extend-spec = tie.close (tie.spec extend-requires extended-turn-requires returns)

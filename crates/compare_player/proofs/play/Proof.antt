@@ -20,6 +20,9 @@ add-requires c κs = search needs
 skip-requires : tie.Need-skip-requires
 skip-requires c κs = search needs
 
+extend-with-requires : tie.Need-extend-with-requires
+extend-with-requires c κs = search needs
+
 extend-requires : tie.Need-extend-requires
 extend-requires c κs = search needs
 
@@ -44,11 +47,15 @@ returns-4 c = let a = c .before .before .args in c .skip .ensures ∙ sym (ap (�
 
 returns-5 : tie.Need-returns-5
 unfolding played
-returns-5 c = let a = c .before .before .args in c .extend .ensures ∙ sym (ap (λ (k : ℕ). getD (turns (a .player) (a .call)) k (setTurn (a .player) (a .call))) (c .before .match .keys5))
+returns-5 c = let a = c .before .before .args in c .extend-with .ensures ∙ sym (ap (λ (k : ℕ). getD (turns (a .player) (a .call)) k (setTurn (a .player) (a .call))) (c .before .match .keys5))
 
 returns-6 : tie.Need-returns-6
 unfolding played
-returns-6 c = let a = c .before .before .args in c .set .ensures ∙ past (turns (a .player) (a .call)) (a .call .kind) (setTurn (a .player) (a .call)) (at-least 5 _ (c .before .match .rest))
+returns-6 c = let a = c .before .before .args in c .extend .ensures ∙ sym (ap (λ (k : ℕ). getD (turns (a .player) (a .call)) k (setTurn (a .player) (a .call))) (c .before .match .keys6))
+
+returns-7 : tie.Need-returns-7
+unfolding played
+returns-7 c = let a = c .before .before .args in c .set .ensures ∙ past (turns (a .player) (a .call)) (a .call .kind) (setTurn (a .player) (a .call)) (at-least 6 _ (c .before .match .rest))
 
 pub play-spec : {M : Type 1} → statement M
 play-spec =
@@ -58,6 +65,7 @@ play-spec =
     ride-requires
     add-requires
     skip-requires
+    extend-with-requires
     extend-requires
     set-requires
     returns
@@ -65,4 +73,5 @@ play-spec =
     returns-3
     returns-4
     returns-5
-    returns-6)
+    returns-6
+    returns-7)

@@ -36,7 +36,7 @@ unfolding called
 called-fits f (read sample) p power fits = read-fits p fits sample power
 called-fits f (ride ms mm kinds values) p power fits = ride-fits p fits ms mm f kinds values
 called-fits f (skip kinds values) p power fits = skip-fits p fits kinds values
-called-fits f extend p power fits = extend-fits p fits
+called-fits f (extend secs metres) p power fits = extend-fits p fits secs metres
 
 call-sound : (c : Call) (b : Bike) → ReadFits c → Sound b → Sound (afterCall c b)
 call-sound c b power sound =

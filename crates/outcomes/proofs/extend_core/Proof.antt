@@ -1,6 +1,6 @@
 -- `extend_core`: within the limit, or refused.
-use borrow.Author.Tests.{le-leb, lt-leb}
 use Rattle.outcomes.specs.Outcomes.{extendCore}
+use Rattle.outcomes.proofs.Laws.{within, past}
 use borrow.Author.Needs.{needs}
 use Rattle.outcomes.proofs.extend_core.Statement.{statement}
 use Rattle.outcomes.proofs.extend_core.Tie as tie
@@ -8,15 +8,15 @@ use Rattle.outcomes.proofs.extend_core.Tie as tie
 enum-told : tie.Need-enum-told
 enum-told c = search needs
 
-add-if1 : tie.Need-add-if1
-add-if1 c = search needs
+sub-if1 : tie.Need-sub-if1
+sub-if1 c = search needs
 
 longer-requires : tie.Need-longer-requires
 longer-requires c κs = search needs
 
 returns : tie.Need-returns
 unfolding extendCore
-returns c = simp (c .before .before .before .enum-told .given .1, le-leb _ _ (c .before .if1 .taken), c .longer .ensures)
+returns c = simp (c .before .before .before .enum-told .given .1, within _ _ _ (c .before .before .before .before .before .before .before .pre .extra-s) (c .before .if1 .taken), c .longer .ensures)
 
 core-as-before-requires : tie.Need-core-as-before-requires
 core-as-before-requires c κs = search needs
@@ -24,15 +24,15 @@ core-as-before-requires c κs = search needs
 enum-told-2 : tie.Need-enum-told-2
 enum-told-2 c = search needs
 
-add-if2 : tie.Need-add-if2
-add-if2 c = search needs
+sub-if2 : tie.Need-sub-if2
+sub-if2 c = search needs
 
 longer-requires-2 : tie.Need-longer-requires-2
 longer-requires-2 c κs = search needs
 
 returns-2 : tie.Need-returns-2
 unfolding extendCore
-returns-2 c = simp (c .before .before .before .enum-told2 .given .1, le-leb _ _ (c .before .if2 .taken), c .longer2 .ensures)
+returns-2 c = simp (c .before .before .before .enum-told2 .given .1, within _ _ _ (c .before .before .before .before .before .before .before .pre .extra-m) (c .before .if2 .taken), c .longer2 .ensures)
 
 core-as-before-requires-2 : tie.Need-core-as-before-requires-2
 core-as-before-requires-2 c κs = search needs
@@ -45,11 +45,11 @@ core-as-before-requires-3 c κs = search needs
 
 returns-3 : tie.Need-returns-3
 unfolding extendCore
-returns-3 c = simp (c .before .before .before .enum-told .given .1, lt-leb _ _ (c .before .if1 .left), c .core-as-before .ensures)
+returns-3 c = simp (c .before .before .before .enum-told .given .1, past _ _ _ (c .before .before .before .before .before .before .before .pre .extra-s) (c .before .if1 .left), c .core-as-before .ensures)
 
 returns-4 : tie.Need-returns-4
 unfolding extendCore
-returns-4 c = simp (c .before .before .before .enum-told2 .given .1, lt-leb _ _ (c .before .if2 .left), c .core-as-before2 .ensures)
+returns-4 c = simp (c .before .before .before .enum-told2 .given .1, past _ _ _ (c .before .before .before .before .before .before .before .pre .extra-m) (c .before .if2 .left), c .core-as-before2 .ensures)
 
 returns-5 : tie.Need-returns-5
 unfolding extendCore
@@ -60,12 +60,12 @@ extend-core-spec =
     tie.close
     (tie.spec
     enum-told
-    add-if1
+    sub-if1
     longer-requires
     returns
     core-as-before-requires
     enum-told-2
-    add-if2
+    sub-if2
     longer-requires-2
     returns-2
     core-as-before-requires-2

@@ -13,8 +13,8 @@ eventless-requires : tie.Need-eventless-requires
 eventless-requires c κs = search needs
 
 returns : tie.Need-returns
-returns c = let k = c .before .before .args .core in
-    c .eventless .ensures ∙ sym (ap (λ (b : Bool). cond {A = Acted} b (eventlessAct Accepted k) (ofExtended (extendCore 60 500 (k .on .length) k))) (c .before .if1 .taken))
+returns c = let a = c .before .before .args in let k = a .core in
+    c .eventless .ensures ∙ sym (ap (λ (b : Bool). cond {A = Acted} b (eventlessAct Accepted k) (ofExtended (extendCore (a .secs) (a .metres) (k .on .length) k))) (c .before .if1 .taken))
 
 extend-core-requires : tie.Need-extend-core-requires
 extend-core-requires c κs = c .before .pre (c .if1 .left)
@@ -23,9 +23,9 @@ eventless-requires-2 : tie.Need-eventless-requires-2
 eventless-requires-2 c κs = search needs
 
 returns-2 : tie.Need-returns-2
-returns-2 c = let k = c .before .before .before .before .args .core in
+returns-2 c = let a = c .before .before .before .before .args in let k = a .core in
     c .eventless2 .ensures ∙ ap ofExtended (c .before .before .extend-core .ensures)
-    ∙ sym (ap (λ (b : Bool). cond {A = Acted} b (eventlessAct Accepted k) (ofExtended (extendCore 60 500 (k .on .length) k))) (c .before .before .before .if1 .left))
+    ∙ sym (ap (λ (b : Bool). cond {A = Acted} b (eventlessAct Accepted k) (ofExtended (extendCore (a .secs) (a .metres) (k .on .length) k))) (c .before .before .before .if1 .left))
 
 pub extend-act-spec : {M : Type 1} → statement M
 extend-act-spec =

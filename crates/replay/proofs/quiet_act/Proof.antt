@@ -2,7 +2,7 @@
 use mathlib.Core.Path.{refl}
 use mathlib.Core.List.{[]}
 use denote.Ref.{now}
-use Rattle.sheet.specs.declared.Act.the-variants.{Skip, Extend}
+use Rattle.sheet.specs.declared.Act.the-variants.{Skip, ExtendLong, Extend}
 use Rattle.replay.specs.Acts.{actCalled}
 use Rattle.replay.proofs.Laws.{profile-acts, skip-acts, extend-acts, ready-next, ready-extra, not-quiet, played}
 use borrow.Author.Needs.{needs}
@@ -42,6 +42,12 @@ enum-told-5 c = search needs
 extend-act-requires : tie.Need-extend-act-requires
 extend-act-requires c κs = let a = c .before .before .before .before .before .before .before .args in λ d. ready-extra (a .workout) (a .core) (now (a .minute)) [] [] (c .before .before .before .before .before .before .before .pre .0) d
 
+enum-told-6 : tie.Need-enum-told-6
+enum-told-6 c = search needs
+
+extend-act-requires-2 : tie.Need-extend-act-requires-2
+extend-act-requires-2 c κs = let a = c .before .before .before .before .before .before .before .args in λ d. ready-extra (a .workout) (a .core) (now (a .minute)) [] [] (c .before .before .before .before .before .before .before .pre .0) d
+
 returns : tie.Need-returns
 returns c = let a = c .before .before .before .before .before .before .before .before .args in
     played (a .workout) (a .profile) (a .act) _ (a .core) (now (a .minute)) _ _ _ _ _ _ (c .before .before .before .before .before .before .before .before .pre .0) (c .before .before .before .reading-fits .ensures) (c .before .before .before .before .before .before .before .before .pre .0 .sixty) (c .before .enum-told .given .1) (profile-acts (a .workout) (a .core) (now (a .minute)) _ _ (a .profile) _ _ (c .eventless .ensures))
@@ -66,7 +72,12 @@ returns-4 c = let a = c .before .before .before .before .before .before .before 
 returns-5 : tie.Need-returns-5
 unfolding actCalled
 returns-5 c = let a = c .before .before .before .before .before .before .before .before .args in
-    played (a .workout) (a .profile) (a .act) Extend (a .core) (now (a .minute)) _ _ _ _ _ _ (c .before .before .before .before .before .before .before .before .pre .0) (c .before .before .before .reading-fits .ensures) (c .before .before .before .before .before .before .before .before .pre .0 .sixty) (c .before .enum-told5 .given .1) (extend-acts (a .workout) (a .core) (now (a .minute)) _ _ (a .profile) (c .before .before .before .before .before .before .before .before .pre .0 .stands) _ (c .extend-act .ensures))
+    played (a .workout) (a .profile) (a .act) ExtendLong (a .core) (now (a .minute)) _ _ _ _ _ _ (c .before .before .before .before .before .before .before .before .pre .0) (c .before .before .before .reading-fits .ensures) (c .before .before .before .before .before .before .before .before .pre .0 .sixty) (c .before .enum-told5 .given .1) (extend-acts (a .workout) (a .core) (now (a .minute)) _ _ (a .profile) (c .before .before .before .before .before .before .before .before .pre .0 .stands) _ _ _ (c .extend-act .ensures))
+
+returns-6 : tie.Need-returns-6
+unfolding actCalled
+returns-6 c = let a = c .before .before .before .before .before .before .before .before .args in
+    played (a .workout) (a .profile) (a .act) Extend (a .core) (now (a .minute)) _ _ _ _ _ _ (c .before .before .before .before .before .before .before .before .pre .0) (c .before .before .before .reading-fits .ensures) (c .before .before .before .before .before .before .before .before .pre .0 .sixty) (c .before .enum-told6 .given .1) (extend-acts (a .workout) (a .core) (now (a .minute)) _ _ (a .profile) (c .before .before .before .before .before .before .before .before .pre .0 .stands) _ _ _ (c .extend-act2 .ensures))
 
 pub quiet-act-spec : {M : Type 1} → statement M
 quiet-act-spec =
@@ -83,10 +94,13 @@ quiet-act-spec =
     skip-act-requires
     enum-told-5
     extend-act-requires
+    enum-told-6
+    extend-act-requires-2
     returns
     returns-2
     returns-3
     same-length
     same-length-2
     returns-4
-    returns-5)
+    returns-5
+    returns-6)

@@ -66,7 +66,11 @@ returns-4 c = let a = c .before .before .before .args in let s = now (a .sheet) 
 
 returns-5 : tie.Need-returns-5
 unfolding actIn
-returns-5 c = let a = c .before .before .before .args in let s = now (a .sheet) in sym (List·getD-eq-default (actsAt s (placeOf (a .n) (a .i))) Extend (at-least 4 _ (c .match .rest)))
+returns-5 c = let a = c .before .before .before .args in let s = now (a .sheet) in sym (ap (λ (k : ℕ). getD (actsAt s (placeOf (a .n) (a .i))) k Extend) (c .match .keys5))
+
+returns-6 : tie.Need-returns-6
+unfolding actIn
+returns-6 c = let a = c .before .before .before .args in let s = now (a .sheet) in sym (List·getD-eq-default (actsAt s (placeOf (a .n) (a .i))) Extend (at-least 5 _ (c .match .rest)))
 
 pub act-at-spec : {M : Type 1} → statement M
 act-at-spec =
@@ -88,4 +92,5 @@ act-at-spec =
     returns-2
     returns-3
     returns-4
-    returns-5)
+    returns-5
+    returns-6)

@@ -6,8 +6,9 @@ use Prim.Native.Nat.{_+_}
 use lib.Dec.{eqb}
 use lib.ListN.{List·getD-eq-default}
 use denote.Ref.{now}
-use Rattle.sheet.specs.Sheet.{placeOf, sampleOk, unusedAt, actBy, actOk}
+use Rattle.sheet.specs.Sheet.{placeOf, sampleOk, unusedAt, valuelessOk, actBy, actOk}
 use Rattle.common.proofs.Matches.{at-least}
+use Rattle.sheet.proofs.Laws.{valueless}
 use borrow.Author.Needs.{needs}
 use Rattle.sheet.proofs.is_act.Statement.{statement}
 use Rattle.sheet.proofs.is_act.Tie as tie
@@ -59,15 +60,11 @@ returns-3 c = let a = c .before .before .before .before .before .args in let s =
 
 returns-4 : tie.Need-returns-4
 unfolding actOk
-returns-4 c = let a = c .before .before .before .before .before .args in let s = now (a .sheet) in let at = placeOf (a .n) (a .i) in ap₂ (λ (u v : Bool). not (eqb (a .i) 0) && (u && v)) (c .before .before .is-unused .ensures) (c .before .is-unused2 .ensures) ∙ sym (ap (actBy (eqb (a .i) 0) s at) (c .match .keys4))
+returns-4 c = let a = c .before .before .before .before .before .before .args in let s = now (a .sheet) in let at = placeOf (a .n) (a .i) in ap₂ (λ (u v : Bool). not (eqb (a .i) 0) && (u && v)) (c .before .before .before .is-unused .ensures) (c .before .before .is-unused2 .ensures) ∙ sym (valueless (eqb (a .i) 0) s at _ (at-least 3 _ (c .before .match .rest)) (c .if1 .taken))
 
 returns-5 : tie.Need-returns-5
 unfolding actOk
-returns-5 c = let a = c .before .before .before .before .before .args in let s = now (a .sheet) in let at = placeOf (a .n) (a .i) in ap₂ (λ (u v : Bool). not (eqb (a .i) 0) && (u && v)) (c .before .before .is-unused .ensures) (c .before .is-unused2 .ensures) ∙ sym (ap (actBy (eqb (a .i) 0) s at) (c .match .keys5))
-
-returns-6 : tie.Need-returns-6
-unfolding actOk
-returns-6 c = let a = c .before .before .before .before .before .args in let s = now (a .sheet) in let at = placeOf (a .n) (a .i) in let first = eqb (a .i) 0 in sym (List·getD-eq-default ((first && unusedAt s (at + 4)) ∷ (not first && sampleOk s at) ∷ not first ∷ (not first && (unusedAt s at && unusedAt s (at + 4))) ∷ (not first && (unusedAt s at && unusedAt s (at + 4))) ∷ []) false (at-least 5 _ (c .match .rest)))
+returns-5 c = let a = c .before .before .before .before .before .before .args in let s = now (a .sheet) in let at = placeOf (a .n) (a .i) in let first = eqb (a .i) 0 in sym (List·getD-eq-default ((first && unusedAt s (at + 4)) ∷ (not first && sampleOk s at) ∷ not first ∷ valuelessOk first s at ∷ valuelessOk first s at ∷ valuelessOk first s at ∷ []) false (c .if1 .left))
 
 pub is-act-spec : {M : Type 1} → statement M
 is-act-spec =
@@ -88,5 +85,4 @@ is-act-spec =
     returns-2
     returns-3
     returns-4
-    returns-5
-    returns-6)
+    returns-5)

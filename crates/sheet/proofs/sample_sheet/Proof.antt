@@ -16,7 +16,7 @@ returns c =
           record {
             most = omega arith;
             opened = refl;
-            fits = ((omega arith, omega arith), ((omega arith, omega arith, omega arith), ((omega arith, omega arith), (tt, (tt, tt)))));
+            fits = ((omega arith, omega arith), ((omega arith, omega arith, omega arith), ((omega arith, omega arith), (tt, (tt, (tt, tt))))));
           };
       bytes = refl;
     }
