@@ -132,12 +132,13 @@ fn test(test: Test, length: Length, target: Target) -> Vec<u8> {
     file("A TEST", &[warmup, step(Intensity::Test, length, target), cooldown], &[], Some(test))
 }
 
-/// A profile, then a reading and a ride by turns, with a skip for each 97th act and an extend for each 61st where `touched`.
+/// A profile, then a reading and a ride by turns, with a skip for each 97th act and an extend of kind 4, which is the Rust's, for each
+/// 61st where `touched`.
 fn sheet(ms: u32, touched: bool, watts: impl Fn(usize) -> usize) -> Vec<u8> {
     let act = |i: usize| match i {
         0 => Act::Profile(250, 165),
         _ if touched && i % 97 == 0 => Act::Skip,
-        _ if touched && i % 61 == 0 => Act::Extend,
+        _ if touched && i % 61 == 0 => Act::ExtendLong,
         _ if i % 2 == 1 => Act::Read(Sample {
             power_watts: Some(watts(i) as u16),
             heart_bpm: (i % 16 != 1).then_some(120 + (i % 50) as u16),

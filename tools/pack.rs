@@ -21,8 +21,9 @@
 //!     read power 150 heart 120 cadence 905              watts, beats a minute, tenths of turns a minute; any of them or none
 //!     ride 250 ms 2000 mm                               milliseconds and millimetres; without the latter 0
 //!     skip                                              ends the step
-//!     extend                                            60 s or 500 m more of the step
-//!     raw 05 0000000000000000                           any act: its kind and its eight bytes, in hexadecimal
+//!     extend-60s-500m                                   60 s or 500 m more of the step (kind 4)
+//!     extend-default                                    as much more as the handlebar button gives, 30 s or 250 m (kind 5)
+//!     raw 06 0000000000000000                           any act: its kind and its eight bytes, in hexadecimal
 //!     times 4 ride 250 ms 2000 mm                       the act so many times
 //!     times 60                                          all acts up to the line `end` so many times; such
 //!     end                                               loops may stand inside each other
@@ -241,12 +242,15 @@ fn act(word: &str, line: &mut Line) -> Result<Act, Fault> {
         "read" => reading(line),
         "ride" => ride(line),
         "skip" => Ok((3, [0; 8])),
-        "extend" => Ok((4, [0; 8])),
+        "extend-60s-500m" => Ok((4, [0; 8])),
+        "extend-default" => Ok((5, [0; 8])),
+        // It was kind 4 before there were two, and nobody is to take one for the other.
+        "extend" => Err("`extend` is either extend-60s-500m, as it was, or extend-default (30 s or 250 m)".to_string()),
         "raw" => {
             let [kind] = line.hexadecimal("the kind")?;
             Ok((kind, line.hexadecimal("the value")?))
         }
-        _ => Err(format!("an act is profile, read, ride, skip, extend or raw, not `{word}`")),
+        _ => Err(format!("an act is profile, read, ride, skip, extend-60s-500m, extend-default or raw, not `{word}`")),
     }
 }
 

@@ -106,7 +106,8 @@ typedef struct {
     uint32_t high;
 } act;
 
-enum { PROFILE = 0, READ = 1, RIDE = 2, SKIP = 3, EXTEND = 4 };
+/* EXTEND_LONG is by 60 s or 500 m, EXTEND by the default, 30 s or 250 m. */
+enum { PROFILE = 0, READ = 1, RIDE = 2, SKIP = 3, EXTEND_LONG = 4, EXTEND = 5 };
 enum { POWER = 1, HEART = 2, CADENCE = 4 };
 
 static act profile(uint16_t ftp, uint16_t lthr) { return (act){PROFILE, ftp | (uint32_t)lthr << 16, 0}; }
@@ -119,6 +120,7 @@ static act reading(uint16_t flags, uint16_t power, uint16_t heart, uint16_t cade
 static act ride(uint32_t ms, uint32_t mm) { return (act){RIDE, ms, mm}; }
 
 static const act skip = {SKIP, 0, 0};
+static const act extend_long = {EXTEND_LONG, 0, 0};
 static const act extend = {EXTEND, 0, 0};
 
 static file sheet_of(const act *acts, size_t n) {
@@ -138,16 +140,19 @@ static file sheet_of(const act *acts, size_t n) {
 #define SHEET(...)                                                                                                     \
     sheet_of((const act[]){profile(200, 160), __VA_ARGS__}, sizeof((const act[]){{0, 0, 0}, __VA_ARGS__}) / sizeof(act))
 
-/* A profile, one act so many times, and a last one. */
-static file sheet_with(act some, size_t times, act last) {
+/* A profile, one act so many times, and two last ones; or one. */
+static file sheet_with_two(act some, size_t times, act before, act last) {
     static act acts[MOST_ACTS + 1];
     acts[0] = profile(200, 160);
     for (size_t i = 1; i <= times; i++) {
         acts[i] = some;
     }
-    acts[times + 1] = last;
-    return sheet_of(acts, times + 2);
+    acts[times + 1] = before;
+    acts[times + 2] = last;
+    return sheet_of(acts, times + 3);
 }
+
+static file sheet_with(act some, size_t times, act last) { return sheet_with_two(some, times - 1, some, last); }
 
 static file first_sheet(void) { return SHEET(reading(POWER, 150, 0, 0), ride(10000, 0)); }
 
@@ -289,6 +294,12 @@ static file second_sheet(void) {
     return sheet_of(acts, sizeof acts / sizeof acts[0]);
 }
 
+static void set_word(uint8_t *record, size_t at, uint32_t value) {
+    for (int i = 0; i < 4; i++) {
+        record[at + i] = (uint8_t)(value >> 8 * i);
+    }
+}
+
 /* The first record with other flags and another start. */
 static void dated_record(uint8_t *record, int dated, uint64_t start) {
     memcpy(record, first_record, REPLAY_RECORD_LENGTH);
@@ -296,9 +307,42 @@ static void dated_record(uint8_t *record, int dated, uint64_t start) {
     for (int i = 0; i < 8; i++) {
         record[12 + i] = dated ? (uint8_t)(start >> 8 * i) : 0;
     }
-    uint32_t check = crc32(record, REPLAY_RECORD_LENGTH - 4);
-    for (int i = 0; i < 4; i++) {
-        record[66 + i] = (uint8_t)(check >> 8 * i);
+    set_word(record, 66, crc32(record, 66));
+}
+
+/* The first record after another time at 150 W, with the step done or not. */
+static void timed_record(uint8_t *record, uint32_t ms, int done) {
+    memcpy(record, first_record, REPLAY_RECORD_LENGTH);
+    record[7] = done ? 3 : 2;
+    record[42] = done ? 1 : 0;
+    set_word(record, 48, ms);
+    set_word(record, 52, ms);
+    set_word(record, 66, crc32(record, 66));
+}
+
+/* The first ride's step of 10 s extended by kind 4, by kind 5 and by both: 1 ms before its end, at it and past it. */
+static void try_extended(void) {
+    file workout = first_workout();
+    const act again = reading(POWER, 150, 0, 0);
+    const struct {
+        const char *name;
+        act first, second;
+        uint32_t end;
+    } cases[] = {
+        {"extended by kind 4", extend_long, again, 70000},
+        {"extended by kind 5", extend, again, 40000},
+        {"extended by kind 5 twice", extend, extend, 70000},
+        {"extended by kinds 4 and 5", extend_long, extend, 100000},
+        {"extended by kinds 5 and 4", extend, extend_long, 100000},
+    };
+    for (size_t i = 0; i < sizeof cases / sizeof cases[0]; i++) {
+        for (uint32_t more = 0; more < 3; more++) {
+            uint8_t record[REPLAY_RECORD_LENGTH];
+            uint32_t ms = cases[i].end - 1 + more;
+            file sheet = SHEET(again, cases[i].first, ride(2500, 0), cases[i].second, ride(ms - 2500, 0));
+            timed_record(record, more < 2 ? ms : cases[i].end, more > 0);
+            try(cases[i].name, &workout, &sheet, usual, REPLAY_WRITTEN, REPLAY_NO_ACT, record);
+        }
     }
 }
 
@@ -414,7 +458,8 @@ static void try_sheets(void) {
         {"a first act that is no profile", sheet_of(first_skip, 2), 0},
         {"a profile with a byte more", with_byte(good, 2 + 3 + 7, 1), 0},
         {"a second profile", SHEET(profile(200, 160)), 1},
-        {"kind 5", SHEET(skip, extend, ((act){5, 0, 0})), 3},
+        {"a first act of kind 5", sheet_of((const act[]){extend, profile(200, 160)}, 2), 0},
+        {"kind 6", SHEET(skip, extend_long, extend, ((act){6, 0, 0})), 4},
         {"kind 255", SHEET(((act){255, 0, 0}), profile(200, 160)), 1},
         {"an absent power that isn't 0", SHEET(reading(HEART, 1, 150, 0)), 1},
         {"an absent heart rate that isn't 0", SHEET(skip, reading(POWER | CADENCE, 1, 150, 900)), 2},
@@ -422,11 +467,17 @@ static void try_sheets(void) {
         {"flag 8", SHEET(reading(8, 0, 0, 0)), 1},
         {"flag 32,768", SHEET(reading(32768 + POWER, 150, 0, 0)), 1},
         {"a skip with a value", SHEET(((act){SKIP, 1, 0})), 1},
-        {"an extend with a value", SHEET(((act){EXTEND, 0, UINT32_C(0x80000000)})), 1},
+        {"an extend of kind 4 with a value", SHEET(((act){EXTEND_LONG, 0, UINT32_C(0x80000000)})), 1},
+        {"an extend of kind 5 with a value", SHEET(extend, ((act){EXTEND, 0, UINT32_C(0x80000000)})), 2},
+        {"an extend of kind 5 with an amount", SHEET(((act){EXTEND, 30, 250})), 1},
         {"the last of 4,096 acts", with_byte(most, most.len - 1, 1), MOST_ACTS - 1},
     };
     for (size_t i = 0; i < sizeof acts / sizeof acts[0]; i++) {
         refuse(acts[i].name, workout, acts[i].sheet, usual, REPLAY_ACT, acts[i].act_at);
+    }
+    for (size_t byte = 0; byte < 8; byte++) {
+        file sheet = SHEET(skip, extend);
+        refuse("a byte of kind 5's value", workout, with_byte(sheet, 2 + 3 + 2 * 8 + byte, 1), usual, REPLAY_ACT, 2);
     }
 }
 
@@ -452,14 +503,21 @@ static void try_acts(void) {
         {"a week and 1 ms", sheet_with(day, 7, ride(1, 0)), REPLAY_TOTALS, 8},
         {"7,000 km and 1 mm", sheet_with(far, 7, ride(0, 1)), REPLAY_TOTALS, 8},
         {"a week, then a ride over a day", sheet_with(day, 7, ride(UINT32_MAX, 0)), REPLAY_UPDATE, 8},
-        {"1,441 extends", sheet_with(extend, 1440, extend), REPLAY_EXTRA, 1441},
+        {"1,441 extends of kind 4", sheet_with(extend_long, 1440, extend_long), REPLAY_EXTRA, 1441},
+        {"2,881 extends of kind 5", sheet_with(extend, 2880, extend), REPLAY_EXTRA, 2881},
+        {"86,370 s by kind 5, then kind 4", sheet_with(extend, 2879, extend_long), REPLAY_EXTRA, 2880},
+        {"86,370 s by both, then kind 4", sheet_with_two(extend_long, 1439, extend, extend_long), REPLAY_EXTRA, 1441},
+        {"86,400 s by kind 4, then kind 5", sheet_with(extend_long, 1440, extend), REPLAY_EXTRA, 1441},
         {"the first of two acts at fault", SHEET(ride(1, 0), ride(UINT32_MAX, 0), reading(CADENCE, 0, 0, 65535)),
          REPLAY_UPDATE, 2},
     };
     for (size_t i = 0; i < sizeof cases / sizeof cases[0]; i++) {
         refuse(cases[i].name, ten, cases[i].sheet, usual, cases[i].refusal, cases[i].act_at);
     }
-    refuse("2,001 extends by distance", way, sheet_with(extend, 2000, extend), usual, REPLAY_EXTRA, 2001);
+    refuse("2,001 extends of kind 4 by distance", way, sheet_with(extend_long, 2000, extend_long), usual, REPLAY_EXTRA,
+           2001);
+    refuse("4,001 extends of kind 5 by distance", way, sheet_with(extend, 4000, extend), usual, REPLAY_EXTRA, 4001);
+    refuse("999,750 m by kind 5, then kind 4", way, sheet_with(extend, 3999, extend_long), usual, REPLAY_EXTRA, 4000);
 }
 
 /* Rides at the limits that the cases above lie past: what is compared is the answer, and that the record's own check word is
@@ -486,15 +544,21 @@ static void accept(const char *name, file workout, file sheet) {
 
 static void try_limits(void) {
     file ten = plain_workout(1, TIME, 10, 0, 2), way = plain_workout(1, DISTANCE, 100, 0, 0);
+    file open = plain_workout(1, OPEN, 0, 0, 0);
     accept("the profile alone", ten, sheet_of((const act[]){profile(50, 1)}, 1));
     accept("the highest profile", ten, sheet_of((const act[]){profile(600, 255), skip}, 2));
     accept("cadence 65,530", ten, SHEET(reading(CADENCE, 0, 0, 65530), ride(1, 1)));
     accept("a day and 1,000 km", ten, SHEET(ride(DAY_MS, WAY_MM)));
     accept("a week", ten, sheet_with(ride(DAY_MS, 0), 7, ride(0, 0)));
     accept("7,000 km", ten, sheet_with(ride(1, WAY_MM), 7, ride(1, 0)));
-    accept("1,440 extends", ten, sheet_with(extend, 1440, skip));
-    accept("2,000 extends by distance", way, sheet_with(extend, 2000, ride(1000, 5000)));
-    accept("an extend when finished", way, SHEET(skip, extend));
+    accept("1,440 extends of kind 4", ten, sheet_with(extend_long, 1440, skip));
+    accept("2,000 extends of kind 4 by distance", way, sheet_with(extend_long, 2000, ride(1000, 5000)));
+    accept("2,880 extends of kind 5", ten, sheet_with(extend, 2880, skip));
+    accept("4,000 extends of kind 5 by distance", way, sheet_with(extend, 4000, ride(1000, 5000)));
+    accept("86,370 s by kind 5, then kind 5", ten, sheet_with(extend, 2879, extend));
+    accept("86,370 s by both, then kind 5", ten, sheet_with_two(extend_long, 1439, extend, extend));
+    accept("4,001 extends of kind 5 in an open step", open, sheet_with(extend, 4000, extend));
+    accept("extends when finished", way, SHEET(skip, extend_long, extend));
     accept("4,096 acts", ten, sheet_with(ride(1, 1), MOST_ACTS - 2, skip));
     accept("12 steps by 8", plain_workout(12, TIME, 10, 0, 8), first_sheet());
 }
@@ -518,6 +582,7 @@ static void try_order(void) {
 
 int main(void) {
     try_accepted();
+    try_extended();
     try_workouts();
     try_sheets();
     try_acts();

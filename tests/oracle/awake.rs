@@ -120,13 +120,16 @@ type Comparison = (&'static str, &'static str);
 /// Programs of tests/oracle/run with their words: the limits, with no random inputs, or few.
 const PLAYER: Comparison = ("player", "0 1");
 const REPLAY: Comparison = ("replay", "0 1");
+const AMOUNTS: Comparison = ("amounts", "0 1");
 const COMPARE: Comparison = ("compare", "0 1");
 const CUTTING: Comparison = ("cutting", "300 1");
 
 /// Those that a change of a file is looked for by, one after the other until it is found.
 fn comparisons(file: &str) -> &'static [Comparison] {
     match file {
-        "workout/player.rs" | "played.rs" => &[PLAYER, REPLAY],
+        "workout/player.rs" => &[PLAYER, REPLAY],
+        "played.rs" | "players.rs" => &[PLAYER, REPLAY, AMOUNTS],
+        "replays.rs" => &[REPLAY],
         "fields.rs" => &[PLAYER],
         "machine.rs" => &[CUTTING],
         _ => &[COMPARE, PLAYER],
@@ -146,7 +149,7 @@ fn main() {
     let (said, found) = copy.different();
     println!("no change | {said}");
     missed += usize::from(found);
-    for (program, words) in [PLAYER, REPLAY, COMPARE, CUTTING] {
+    for (program, words) in [PLAYER, REPLAY, AMOUNTS, COMPARE, CUTTING] {
         copy.build(program);
         let (said, found) = copy.run(program, words);
         println!("no change | {program} {words}: {}", if found { &said } else { "nothing" });

@@ -3,7 +3,8 @@ use super::{
     CADENCE, FREE, FTP, FTP_RAMP, HEART_ZONE_TARGET, LTHR, PLAIN_STEP, RAMP_TARGET, Random, StepWords, Target, WATTS,
     WorkoutWords, files, limits, sound_target, sound_workout,
 };
-use played::{ADD, Call, EXTEND, READ, RIDE, SKIP};
+use played::{ADD, Call, EXTEND_WITH, READ, RIDE, SKIP};
+use players::LONG;
 
 /// A workout file and the calls to play on it.
 pub struct Play {
@@ -106,7 +107,7 @@ fn update(random: &mut Random, pace: u32, call: &mut Call) {
 fn call(random: &mut Random, profile: (u32, u32), base: u32, pace: u32) -> Call {
     let kind = match random.below(24) {
         0 => SKIP,
-        1 | 2 => EXTEND,
+        1 | 2 => EXTEND_WITH,
         3..=9 => READ,
         10..=16 => RIDE,
         _ => ADD,
@@ -120,7 +121,8 @@ fn call(random: &mut Random, profile: (u32, u32), base: u32, pace: u32) -> Call 
     if random.once_in(200) {
         call.lthr = random.one_of(&[0, 1, 255, 256, 65_535]);
     }
-    call
+    // The Rust's own amount, so that the list is the unchanged Rust's.
+    if kind == EXTEND_WITH { call.extending(LONG) } else { call }
 }
 
 /// A random workout with a random list of calls; now and then a file of any content.
@@ -148,7 +150,7 @@ fn repeated(call: Call, count: usize) -> Vec<Call> {
 /// 500,000 mm in a step of 100 m, and 59,999 ms of a ramp test. Then those of `limits`.
 pub fn limit_plays() -> Vec<Play> {
     let base = Call { ftp: 250, lthr: 160, power: 1 + 300, heart: 1 + 140, cadence: 1 + 900, ..Call::default() };
-    let touch = Call { kind: EXTEND, ..base };
+    let touch = base.extending(LONG);
     let read = Call { kind: READ, ..base };
     let ride = |ms, mm| Call { kind: RIDE, ms, mm, ..base };
     let add = |ms, mm| Call { kind: ADD, ms, mm, ..base };

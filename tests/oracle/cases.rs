@@ -4,15 +4,16 @@
 //! accepted; and random ones of a fixed seed. `cases line FOLDER` prints the line for the two files of FOLDER.
 use inputs::Random;
 use inputs::files::longest;
-use replays::{Answer, MAX_ACTS, Met, answer, first_file, limit_replays, random_replay, replay_of};
+use replays::{Answer, MAX_ACTS, Met, answer, first_file, limit_replays, mixed_replay, random_replay, replay_of};
 use std::collections::BTreeSet;
 use std::path::Path;
 
 const SEED: u64 = 7;
 const FILES: [&str; 2] = ["workout.bin", "ride.bin"];
-/// At least so many cases, so many of them random.
+/// At least so many cases, so many of them random, and so many random with kinds 4 and 5.
 const LEAST: usize = 220;
 const RANDOM: usize = 120;
+const MIXED: usize = 60;
 const FAR: usize = 200_000;
 
 /// What stands under a file's name.
@@ -55,7 +56,8 @@ fn cases() -> Vec<[File; 2]> {
     cases.push([workout.clone(), far(&whole.sheet)]);
     // A count of 65,535 acts, all of them there.
     cases.push([workout, File::Bytes([vec![255; 2], vec![3; 65_535], vec![0; 8 * 65_535]].concat())]);
-    let random = (0..RANDOM).map(|_| random_replay(&mut random));
+    let random =
+        (0..RANDOM + MIXED).map(|i| if i < RANDOM { random_replay(&mut random) } else { mixed_replay(&mut random) });
     let played = limit_replays().into_iter().chain(random);
     cases.extend(played.map(|replay| [File::Bytes(replay.workout), File::Bytes(replay.sheet)]));
     // Those that differ in nothing but the bytes lent are one case here.

@@ -1,13 +1,16 @@
 //! Lists of calls whose rides are cut at random: the Rattle's player of crate `compare_cut`, from a static library, against
 //! document 01's millisecond machine (machine.rs), call by call of the cut list for refusals, and after each call of the uncut
-//! list for the record's fields and the started, finished and FTP events given so far; and, where nothing is refused, the
-//! Rust's player on the cut list. Rides and skips are lent exactly the places that question 14 wants then, one fewer in either
-//! array, more, 193, or none. Words: how many lists, and the seed. Fails on a difference, and where a refusal, a kind of event or
-//! a call with exact arrays, before the finish and after it, wasn't met.
+//! list for the record's fields and the started, finished and FTP events given so far; and the Rust's player on what isn't refused
+//! of the cut list: the altered one in every list, the unchanged one too until an extend comes that it hasn't. A third of the
+//! lists mix the extends: with 60 s and 500 m, plain, with any amount; the others have the first alone. Rides and skips are lent
+//! exactly the places that question 14 wants then, one fewer in either array, more, 193, or none. Words: how many lists, and the
+//! seed. Fails on a difference, and where a refusal, a kind of event, an extend of each kind accepted and refused by 15, or a call
+//! with exact arrays, before the finish and after it, wasn't met.
 mod machine;
 
 use inputs::Random;
 use machine::{Event, Machine, Piece};
+use players::{Altered, Amount, DEFAULT, LONG, Player, Unchanged};
 use vana::ride::{log::Sample, zones::TrainingProfile};
 use vana::workout::model::{Block, Intensity, Length, Step, Target, Test, Workout};
 use vana::workout::{codec, player};
@@ -45,7 +48,23 @@ enum Call {
     Read(Sample),
     Ride(Vec<(u64, u64)>, Lent),
     Skip(Lent),
-    Extend,
+    /// No workout here has a distance step, so the metres are anything.
+    Extend(Amount),
+    ExtendDefault,
+}
+
+/// The kinds of extends that are counted: with the Rust's own amount, plain, with another.
+const EXTENDS: usize = 3;
+
+impl Call {
+    fn extends(&self) -> Option<usize> {
+        match self {
+            Call::Extend(amount) if *amount == LONG => Some(0),
+            Call::ExtendDefault => Some(1),
+            Call::Extend(_) => Some(2),
+            _ => None,
+        }
+    }
 }
 
 /// The places of a call at this state of the machine; a read or an extend is lent none.
@@ -63,8 +82,8 @@ fn reading(value: Option<u16>) -> u32 {
     value.map_or(0, |value| 1 + u32::from(value))
 }
 
-/// Eight words to a call: kind (0 read, 1 ride, 3 skip, 4 extend), FTP, LTHR, ms, mm, and then power, heart and cadence of a
-/// read, the places of kinds and of values of a ride or a skip.
+/// Eight words to a call: kind (0 read, 1 ride, 3 skip, 4 extend with an amount, 5 plain extend), FTP, LTHR, ms, mm, and then power,
+/// heart and cadence of a read, the places of kinds and of values of a ride or a skip, the seconds and metres of the amount.
 fn words_of(call: &Call, [kinds, values]: [u32; 2], profile: &TrainingProfile) -> Vec<[u32; 8]> {
     let head = |kind| [kind, profile.ftp_watts.into(), profile.lthr_bpm.into()];
     let words = |[kind, ftp, lthr]: [u32; 3], [ms, mm]: [u64; 2], rest: [u32; 3]| {
@@ -77,7 +96,8 @@ fn words_of(call: &Call, [kinds, values]: [u32; 2], profile: &TrainingProfile) -
         }
         Call::Ride(pieces, _) => pieces.iter().map(|&(ms, mm)| words(head(1), [ms, mm], [kinds, values, 0])).collect(),
         Call::Skip(_) => vec![words(head(3), [0, 0], [kinds, values, 0])],
-        Call::Extend => vec![words(head(4), [0, 0], [0; 3])],
+        Call::Extend(amount) => vec![words(head(4), [0, 0], [amount.secs, amount.metres, 0])],
+        Call::ExtendDefault => vec![words(head(5), [0, 0], [0; 3])],
     }
 }
 
@@ -110,8 +130,7 @@ fn machine_words(m: &Machine) -> [u32; WORDS - 1] {
     ]
 }
 
-fn rust_words(player: &player::Player, events: &[Event]) -> [u32; WORDS - 1] {
-    let s = player.summary();
+fn rust_words(s: player::Summary, events: &[Event]) -> [u32; WORDS - 1] {
     [
         check_word(events),
         s.targeted_ms as u32,
@@ -217,13 +236,39 @@ fn ride(random: &mut Random, far: bool) -> Call {
     Call::Ride(pieces, lent(random))
 }
 
-fn list(random: &mut Random) -> Vec<Call> {
+/// Any amount: about question 15's limit, sums that wrap in 32 bits, small or any.
+fn amount(random: &mut Random) -> Amount {
+    const SECS: [u32; 13] =
+        [0, 1, 30, 59, 60, 86_370, 86_399, 86_400, 86_401, 4_294_880_896, 4_294_967_235, 4_294_967_236, 4_294_967_295];
+    let any = |random: &mut Random| random.below(65_536) << 16 | random.below(65_536);
+    let secs = match random.below(8) {
+        0..3 => SECS[random.below(13) as usize],
+        3 => any(random),
+        _ => random.below(200),
+    };
+    Amount { secs, metres: any(random) }
+}
+
+/// The Rust's own, or of any kind where they are mixed.
+fn extend(random: &mut Random, mixed: bool) -> Call {
+    if !mixed {
+        return Call::Extend(LONG);
+    }
+    match random.below(3) {
+        0 => Call::Extend(LONG),
+        1 => Call::ExtendDefault,
+        _ => Call::Extend(amount(random)),
+    }
+}
+
+fn list(random: &mut Random, mixed: bool) -> Vec<Call> {
     let base = 20 + random.below(500);
     let (tame, far) = (random.below(3) == 0, random.below(6) == 0);
     (0..1 + random.below(14))
         .map(|_| match random.below(10) {
             0 => Call::Skip(if tame { EXACT } else { lent(random) }),
-            1 => Call::Extend,
+            1 => extend(random, mixed),
+            2 if mixed => extend(random, mixed),
             2..5 => Call::Read(loop {
                 let sample = sample(random, base);
                 if !tame || sample.cadence_tenths.is_none_or(|tenths| tenths <= 65_530) {
@@ -242,7 +287,19 @@ fn list(random: &mut Random) -> Vec<Call> {
 
 /// Touches up to question 15 and past it.
 fn touches() -> Vec<Call> {
-    vec![Call::Extend; 1_442]
+    vec![Call::Extend(LONG); 1_442]
+}
+
+/// Amounts up to question 15 and past it: 86,370 s, on which 60 are refused and the plain call's 30 aren't; then 0 s, and no more;
+/// and sums that would wrap.
+fn amounts() -> Vec<Call> {
+    let by = |secs| Call::Extend(Amount { secs, metres: 1_000_001 });
+    let wraps = [by(u32::MAX), by(4_294_880_896), by(4_294_880_897)];
+    let to_the_limit = [by(86_370), Call::Extend(LONG), Call::ExtendDefault, by(0), by(1), Call::ExtendDefault];
+    let at_once = [by(86_401), by(86_400), by(0), Call::ExtendDefault, Call::Extend(LONG)];
+    let end = [Call::Ride(vec![(500, 0), (500, 0)], EXACT), Call::Skip(EXACT)];
+    let calls = [&to_the_limit[..], &wraps, &end, &at_once, &wraps, &end, &[Call::ExtendDefault], &end].concat();
+    vec![calls; 12].concat()
 }
 
 /// Any workout skipped to its end, and then days up to question 13 and past it.
@@ -267,7 +324,8 @@ fn feed(machine: &mut Machine, call: &Call, places: [u32; 2]) -> Vec<u32> {
         Call::Read(sample) => vec![machine.read(*sample)],
         Call::Ride(pieces, _) => pieces.iter().map(|&(ms, mm)| machine.ride(Piece { ms, mm }, places)).collect(),
         Call::Skip(_) => vec![machine.skip(places)],
-        Call::Extend => vec![machine.extend()],
+        Call::Extend(amount) => vec![machine.extend(amount.secs.into())],
+        Call::ExtendDefault => vec![machine.extend(DEFAULT.secs.into())],
     }
 }
 
@@ -280,31 +338,47 @@ fn compared(events: impl IntoIterator<Item = player::Event>) -> impl Iterator<It
     })
 }
 
-/// The Rust's player after a call of which nothing is refused; ride is its loop over `until_end` and `ride_part`.
-fn play(
-    player: &mut player::Player,
-    last: &mut Sample,
-    profile: &TrainingProfile,
-    call: &Call,
-    events: &mut Vec<Event>,
-) {
-    match call {
-        Call::Read(sample) => {
-            player.read(sample);
-            *last = *sample;
-        }
-        Call::Ride(pieces, _) => {
-            for &(mut ms, mut mm) in pieces {
-                while ms > 0 && !player.done() {
-                    let (part_ms, part_mm) = player.until_end(ms, mm);
-                    ms -= part_ms;
-                    mm -= part_mm;
-                    events.extend(compared(player.ride_part(part_ms, part_mm, last, profile).iter().copied()));
-                }
+/// The Rust's player beside the machine, with the last reading and the events so far.
+struct Beside<P> {
+    player: P,
+    last: Sample,
+    events: Vec<Event>,
+}
+
+impl<P: Player> Beside<P> {
+    fn new(workout: &Workout) -> Self {
+        Self { player: P::of(workout), last: Sample::default(), events: Vec::new() }
+    }
+
+    /// A call without what is refused of it; ride is the Rust's loop over `until_end` and `ride_part`.
+    fn play(&mut self, call: &Call, numbers: &[u32], profile: &TrainingProfile) {
+        match call {
+            Call::Ride(pieces, _) => {
+                let accepted = pieces.iter().zip(numbers).filter(|(_, number)| **number == 0);
+                accepted.for_each(|(&(ms, mm), _)| self.ride(ms, mm, profile));
             }
+            _ if numbers[0] != 0 => {}
+            Call::Read(sample) => {
+                self.player.read(sample);
+                self.last = *sample;
+            }
+            Call::Skip(_) => self.events.extend(compared(self.player.skip())),
+            Call::Extend(amount) => _ = self.player.extend(*amount),
+            Call::ExtendDefault => _ = self.player.extend(DEFAULT),
         }
-        Call::Skip(_) => events.extend(compared(player.skip().iter().copied())),
-        Call::Extend => _ = player.extend(),
+    }
+
+    fn ride(&mut self, mut ms: u64, mut mm: u64, profile: &TrainingProfile) {
+        while ms > 0 && !self.player.done() {
+            let (part_ms, part_mm) = self.player.until_end(ms, mm);
+            ms -= part_ms;
+            mm -= part_mm;
+            self.events.extend(compared(self.player.ride_part(part_ms, part_mm, &self.last, profile)));
+        }
+    }
+
+    fn words(&self) -> [u32; WORDS - 1] {
+        rust_words(self.player.summary(), &self.events)
     }
 }
 
@@ -314,8 +388,11 @@ struct Tally {
     calls: u64,
     pieces: u64,
     unrefused: u64,
-    rust: u64,
+    /// Calls of the unchanged Rust's player, and of the altered one.
+    rust: [u64; 2],
     different: u64,
+    /// Extends of each kind, accepted and refused by 15.
+    extends: [[u64; 2]; EXTENDS],
     /// Rides and skips lent exactly what is wanted: before the finish, and none after it.
     exact: [u64; 2],
     refused: [u64; 21],
@@ -338,16 +415,17 @@ fn compare(workout: &Workout, profile: TrainingProfile, calls: &[Call], tally: &
         fed.push((feed(&mut machine, call, places), machine_words(&machine)));
     }
     let answers = ours(&file, &cut);
-    let mut rust = player::Player::new(workout.clone());
-    let (mut last, mut events, mut refused) = (Sample::default(), Vec::new(), false);
-    let mut at = 0;
+    let (mut unchanged, mut altered) = (Beside::<Unchanged>::new(workout), Beside::<Altered>::new(workout));
+    // No extend so far that the unchanged Rust hasn't.
+    let mut own = true;
+    let (mut at, mut refused) = (0, false);
     tally.lists += 1;
     tally.calls += calls.len() as u64;
     if answers[0][0] != 0 || answers[0][1..] != fresh {
         return Some(format!("fresh: Rattle {:?}", answers[0]));
     }
     for (i, (call, (numbers, words))) in calls.iter().zip(fed).enumerate() {
-        for number in numbers {
+        for &number in &numbers {
             at += 1;
             tally.pieces += 1;
             tally.refused[number as usize] += 1;
@@ -359,12 +437,21 @@ fn compare(workout: &Workout, profile: TrainingProfile, calls: &[Call], tally: &
         if answers[at][1..] != words {
             return Some(format!("call {i}: Rattle {:?}, machine {words:?}", &answers[at][1..]));
         }
-        if !refused {
-            play(&mut rust, &mut last, &profile, call, &mut events);
-            tally.rust += 1;
-            if rust_words(&rust, &events) != words {
-                return Some(format!("call {i}: Rust {:?}, machine {words:?}", rust_words(&rust, &events)));
+        if let Some(kind) = call.extends() {
+            own &= kind == 0;
+            tally.extends[kind][usize::from(numbers[0] != 0)] += 1;
+        }
+        if own {
+            unchanged.play(call, &numbers, &profile);
+            tally.rust[0] += 1;
+            if unchanged.words() != words {
+                return Some(format!("call {i}: Rust {:?}, machine {words:?}", unchanged.words()));
             }
+        }
+        altered.play(call, &numbers, &profile);
+        tally.rust[1] += 1;
+        if altered.words() != words {
+            return Some(format!("call {i}: altered Rust {:?}, machine {words:?}", altered.words()));
         }
     }
     for &(kind, _) in &machine.events {
@@ -404,7 +491,8 @@ fn main() {
             0..8 => touches(),
             8 => days(),
             9..17 => arrays(),
-            _ => list(&mut random),
+            17..25 => amounts(),
+            _ => list(&mut random, i % 3 == 0),
         };
         if let Some(fault) = compare(&workout, profile, &calls, &mut tally) {
             tally.different += 1;
@@ -418,17 +506,22 @@ fn main() {
         }
     }
     println!(
-        "cutting: {} lists, {} calls, {} as cut; machine and Rattle, {} lists different; {} calls of the Rust's player too; {} lists with nothing refused uncut",
-        tally.lists, tally.calls, tally.pieces, tally.different, tally.rust, tally.unrefused
+        "cutting: {} lists, {} calls, {} as cut; machine and Rattle, {} lists different; {} calls of the Rust's player too, {} of the altered one; {} lists with nothing refused uncut",
+        tally.lists, tally.calls, tally.pieces, tally.different, tally.rust[0], tally.rust[1], tally.unrefused
+    );
+    println!(
+        "extends (with 60 s and 500 m, plain, with other amounts), accepted and refused by 15: {:?}",
+        tally.extends
     );
     println!("rides and skips with exactly the places wanted, before the finish and after it: {:?}", tally.exact);
     println!("accepted, then refused by 1 to 20: {:?}", tally.refused);
     println!("events (countdown, started, finished, FTP): {:?}", tally.events);
     let missing = [0, 11, 12, 13, 14, 15].iter().any(|&i| tally.refused[i] == 0)
         || tally.events[1..].contains(&0)
-        || tally.exact.contains(&0);
+        || tally.exact.contains(&0)
+        || tally.extends.as_flattened().contains(&0);
     if missing {
-        println!("a refusal, a kind of event or a call with exact arrays wasn't met");
+        println!("a refusal, a kind of event, an extend or a call with exact arrays wasn't met");
     }
     std::process::exit((tally.different > 0 || missing).into());
 }

@@ -5,6 +5,7 @@
 use inputs::Random;
 use inputs::calls::fields_file;
 use played::{ADD, Call, EXTEND, READ, RIDE, SET, SKIP, WORDS};
+use players::{Amount, LONG};
 
 const POSITION: usize = 0;
 const STEPS: usize = 1;
@@ -266,12 +267,14 @@ fn call() -> Call {
 }
 
 /// The calls that a player is tried by.
-fn tried() -> [Call; 6] {
+fn tried() -> [Call; 8] {
     let of = |kind, ms, mm| Call { kind, ms, mm, ..call() };
     [
         of(READ, 0, 0),
         of(RIDE, 1_000, 1_000),
         of(EXTEND, 0, 0),
+        call().extending(LONG),
+        call().extending(Amount { secs: u32::MAX, metres: u32::MAX }),
         of(ADD, 70_000, 1_000_000),
         of(SKIP, 0, 0),
         of(RIDE, 86_400_000, 1_000_000_000),

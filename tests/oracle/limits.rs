@@ -4,7 +4,8 @@ use super::calls::Play;
 use super::{
     CADENCE, FREE, FTP, FTP_RAMP, HEART_ZONE_TARGET, LTHR, RAMP_TARGET, StepWords, Target, WATTS, WorkoutWords, files,
 };
-use played::{ADD, Call, EXTEND, READ, RIDE, SKIP};
+use played::{ADD, Call, READ, RIDE, SKIP};
+use players::LONG;
 use vana::ride::zones::TrainingProfile;
 use vana::workout::player::{COUNTDOWN_S, EXTEND_M, EXTEND_S};
 
@@ -53,7 +54,7 @@ const BASE: Call = Call {
 };
 const ABSENT: Call = BASE;
 const PRESS: Call = Call { kind: SKIP, ..BASE };
-const TOUCH: Call = Call { kind: EXTEND, ..BASE };
+const TOUCH: Call = BASE.extending(LONG);
 /// Watts that no ramp or band is met with, and that none is.
 const WEAK: u32 = 1;
 const STRONG: u32 = 900;

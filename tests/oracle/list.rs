@@ -10,12 +10,13 @@
 //! On a whole replay: the input is seven words (the number of the workout's bytes, journal, id, the start's lower and upper half,
 //! dated, how many bytes are lent), the workout, and the sheet to the end. The answer is the refusal's number, its act, and the
 //! `OUTPUT` bytes, four to a word, that hold the output: they are all `FILL` before, and the first of them are lent. The answers are
-//! those of the model in replays.rs.
+//! those of the model in replays.rs: the unchanged Rust's where the sheet has no kind 5, else those of the Rust whose extend takes the
+//! amount.
 use inputs::calls::{Play, limit_plays, random_play};
 use inputs::{Random, limit_inputs, random_input};
 use played::{Call, Met};
 use questions::{FILE, FILL, NAMES, answer, bytes_of};
-use replays::{Replay, limit_replays, random_replay};
+use replays::{Replay, limit_replays, mixed_replay, random_replay};
 use std::path::{Path, PathBuf};
 
 const SEED: u64 = 20;
@@ -32,11 +33,11 @@ const OUTPUT: usize = 80;
 /// A list has fewer bytes.
 const ROOM: usize = 524_288;
 /// How many replays; the most bytes of workout and sheet together, but for those at limits whose sheet has a length of `LONG` (1,442,
-/// 2,002 and 4,096 acts); and the most bytes of all.
-const REPLAYS: usize = 620;
+/// 1,443, 2,002 and 4,096 acts); and the most bytes of all.
+const REPLAYS: usize = 860;
 const SHORT: usize = 420;
-const LONG: [usize; 3] = [2 + 9 * 1_442, 2 + 9 * 2_002, 2 + 9 * 4_096];
-const REPLAYS_BYTES: usize = 300_000;
+const LONG: [usize; 4] = [2 + 9 * 1_442, 2 + 9 * 1_443, 2 + 9 * 2_002, 2 + 9 * 4_096];
+const REPLAYS_BYTES: usize = 400_000;
 
 fn entry(list: &mut Vec<u8>, question: usize, input: &[u8], answer: &[u32]) {
     list.extend(bytes_of(&[question as u32, input.len() as u32]));
@@ -88,14 +89,14 @@ fn replay_entry(list: &mut Vec<u8>, replay: &Replay, met: &mut replays::Met) {
     entry(list, REPLAY, &input, &replay_words(replay, met));
 }
 
-/// Whole replays: the short ones at limits, a few long ones, then short random ones.
+/// Whole replays: the short ones at limits, a few long ones, then short random ones, each third with kinds 4 and 5.
 fn replays() -> Vec<u8> {
     let mut random = Random(SEED);
     let (mut list, mut met, mut entries) = (Vec::new(), replays::Met::default(), 0);
     let limits = limit_replays();
     let short = |replay: &Replay| replay.workout.len() + replay.sheet.len() <= SHORT;
     let long = limits.iter().filter(|replay| LONG.contains(&replay.sheet.len()));
-    let random = std::iter::from_fn(|| Some(random_replay(&mut random)));
+    let random = (0..).map(|i| if i % 3 == 2 { mixed_replay(&mut random) } else { random_replay(&mut random) });
     for replay in
         limits.iter().filter(|replay| short(replay)).chain(long).cloned().chain(random.filter(short)).take(REPLAYS)
     {
@@ -103,6 +104,7 @@ fn replays() -> Vec<u8> {
         entries += 1;
     }
     println!("replays: {entries}, {} bytes; accepted, then refused by 1 to 20: {:?}", list.len(), met.refused);
+    println!("played by the unchanged Rust {}, by the altered one {}", met.sheets[0], met.sheets[1]);
     assert!(met.missing().is_empty(), "not in the list of replays: {:?}", met.missing());
     assert!(list.len() < REPLAYS_BYTES, "the list of replays is to stay short");
     list

@@ -1,6 +1,6 @@
-//! Document 01's millisecond machine, written from its paragraph, with question 14 as document 02's c amends it, and run millisecond
-//! by millisecond. Of the Rust it takes what document 01 lets machine and player share: the played steps, the band and the heart
-//! zone.
+//! Document 01's millisecond machine, written from its paragraph, with question 14 as document 02's c amends it and extend as i does,
+//! and run millisecond by millisecond. Of the Rust it takes what document 01 lets machine and player share: the played steps, the
+//! band and the heart zone.
 use vana::ride::{log::Sample, zones::TrainingProfile};
 use vana::workout::model::{Intensity, Length, Metric, Step, Target, Test, Workout};
 
@@ -85,14 +85,14 @@ impl Machine {
         0
     }
 
-    /// "Extend: 60 s more in an unfinished timed step." Refused by 15.
-    pub fn extend(&mut self) -> u32 {
+    /// "The millisecond machine's extend adds the seconds of the call", in an unfinished timed step. Refused by 15.
+    pub fn extend(&mut self, secs: u64) -> u32 {
         let timed = !self.finished() && matches!(self.steps[self.position].length, Length::Time(_));
-        if timed && self.extra + 60 > 86_400 {
+        if timed && self.extra + secs > 86_400 {
             return 15;
         }
         if timed {
-            self.extra += 60;
+            self.extra += secs;
         }
         0
     }

@@ -1,8 +1,12 @@
 //! The Rust's player over a list of calls, and the words that its outcome is compared by. Crates `compare_player` and
 //! `compare_reports` answer in the same words. A list is bytes, little-endian 32-bit words, eight to a call: kind (a number of
 //! `READ` to `SET`), FTP, LTHR, ms, mm, power, heart, cadence tenths. Past the end all are 0. A reading is 0 where it is absent,
-//! else one more than it is. `SET` sets a field of our player, and nothing of the Rust's: ms is the field, mm and power the
-//! lower and the upper half of its value.
+//! else one more than it is. `EXTEND_WITH` is the extend with an amount, the numbers themselves: power is the seconds, heart the
+//! metres. `EXTEND` is the plain one, 30 s or 250 m. `SET` sets a field of our player, and nothing of the Rust's: ms is the field,
+//! mm and power the lower and the upper half of its value.
+//!
+//! A list whose extends all give 60 s or 500 m is the unchanged Rust's, since these are its own; any other is played by the altered
+//! one (players.rs).
 //!
 //! The answer is `WORDS` words on the fresh player, then as many after each call, in groups of 16:
 //!
@@ -16,11 +20,12 @@
 //! An absent FTP, percentage, ramp or reading is 0, else one more than the number. The Rust asks nothing of a player or its
 //! arguments, so document 01's questions 10 to 13 and 15 are asked here; 14 and 20 aren't reached. A file that is refused
 //! leaves a player of the empty workout, which is refused 6 by `new` and doesn't stand.
+use players::{Altered, Amount, DEFAULT, Extra, LONG, Player, Unchanged};
 use questions::{band_words, played_word, step_words};
 use vana::ride::{log::Sample, zones::TrainingProfile};
 use vana::workout::codec;
 use vana::workout::model::{Intensity, Length, MAX_PLAYED, Played, Step, Target, Workout};
-use vana::workout::player::{Compliance, EXTEND_M, EXTEND_S, Event, Left, Now, Player, Summary, TestReadout};
+use vana::workout::player::{Compliance, Event, Left, Now, Summary, TestReadout};
 
 pub const WORDS: usize = 80;
 const GROUP: usize = 16;
@@ -29,8 +34,9 @@ pub const READ: u32 = 0;
 pub const RIDE: u32 = 1;
 pub const ADD: u32 = 2;
 pub const SKIP: u32 = 3;
-pub const EXTEND: u32 = 4;
-pub const SET: u32 = 5;
+pub const EXTEND_WITH: u32 = 4;
+pub const EXTEND: u32 = 5;
+pub const SET: u32 = 6;
 
 /// The room of the Rust's `Events`.
 const EVENTS: usize = 16;
@@ -54,6 +60,21 @@ impl Call {
         [self.kind, self.ftp, self.lthr, self.ms, self.mm, self.power, self.heart, self.cadence]
     }
 
+    /// The same as an extend with an amount.
+    pub const fn extending(self, amount: Amount) -> Self {
+        Call { kind: EXTEND_WITH, power: amount.secs, heart: amount.metres, ..self }
+    }
+
+    /// What an extend gives.
+    pub fn amount(&self) -> Amount {
+        if self.kind == EXTEND { DEFAULT } else { Amount { secs: self.power, metres: self.heart } }
+    }
+
+    /// Not an extend that the unchanged Rust hasn't.
+    fn unchanged(&self) -> bool {
+        ![EXTEND_WITH, EXTEND].contains(&self.kind) || self.amount() == LONG
+    }
+
     fn profile(&self) -> TrainingProfile {
         TrainingProfile { ftp_watts: self.ftp as u16, lthr_bpm: self.lthr as u16 }
     }
@@ -75,7 +96,7 @@ pub fn bytes_of(calls: &[Call]) -> Vec<u8> {
 /// How often each thing was met, by the numbers of document 01's tables.
 #[derive(Default)]
 pub struct Met {
-    pub calls: [u64; 5],
+    pub calls: [u64; 6],
     pub refused: [u64; 21],
     pub events: [u64; 4],
     /// Updates with more events than the Rust's `Events` holds: `add` isn't asked there, `ride_part` is.
@@ -88,7 +109,7 @@ pub struct Met {
 }
 
 impl Met {
-    /// The things that weren't met. Questions 14 and 20 have no place here.
+    /// The things that weren't met by the unchanged Rust, which has no plain extend. Questions 14 and 20 have no place here.
     pub fn missing(&self) -> Vec<String> {
         let of = |name: &str, counts: &[u64]| -> Vec<String> {
             (0..counts.len()).filter(|&i| counts[i] == 0).map(|i| format!("{name} {i}")).collect()
@@ -96,7 +117,7 @@ impl Met {
         let asked: Vec<u64> = [0, 10, 11, 12, 13, 15].iter().map(|&number| self.refused[number]).collect();
         let rest = [self.failed_ramps, self.finished, self.many_events];
         [
-            of("call", &self.calls),
+            of("call", &self.calls[..EXTEND as usize]),
             of("refusal 0, 10, 11, 12, 13, 15, place", &asked),
             of("event", &self.events),
             of("length", &self.lengths),
@@ -145,26 +166,30 @@ fn update_refused(call: &Call) -> bool {
 
 /// A list being played. `add` is the Rust's own where its events have room, so a second player goes along, on which it is
 /// composed first.
-struct List {
-    player: Player,
-    second: Player,
+struct List<P> {
+    player: P,
+    second: P,
     sample: Sample,
     total_ms: u64,
     total_mm: u64,
-    /// Touches in the step on now.
-    touches: u32,
+    extra: Extra,
 }
 
-impl List {
+impl<P: Player> List<P> {
     fn new(workout: &Workout) -> Self {
         List {
-            player: Player::new(workout.clone()),
-            second: Player::new(workout.clone()),
+            player: P::of(workout),
+            second: P::of(workout),
             sample: Sample::default(),
             total_ms: 0,
             total_mm: 0,
-            touches: 0,
+            extra: Extra::default(),
         }
+    }
+
+    /// The length of the step on now or, done, of the last.
+    fn length(&self, call: &Call) -> Length {
+        self.player.now(&call.profile()).played.step.length
     }
 
     /// The first question that refuses, or 0.
@@ -173,17 +198,12 @@ impl List {
         let total_ms = self.total_ms + u64::from(call.ms);
         let total_mm = self.total_mm + u64::from(call.mm);
         let totals = total_ms > 604_800_000 || total_mm > 7_000_000_000;
-        let left = self.player.now(&call.profile()).left;
-        let extra = match left {
-            Left::Secs(_) => (self.touches + 1) * EXTEND_S > 86_400,
-            Left::Metres(_) => (self.touches + 1) * EXTEND_M > 1_000_000,
-            Left::Open(_) => false,
-        };
+        let extra = !self.player.done() && self.extra.refuses(self.length(call), call.amount());
         let asked: &[(bool, u32)] = match call.kind {
             READ => &[(cadence, 11)],
             RIDE => &[(profile_refused(&call.profile()), 10), (update_refused(call), 12), (totals, 13)],
             ADD => &[(profile_refused(&call.profile()), 10), (cadence, 11), (update_refused(call), 12), (totals, 13)],
-            EXTEND => &[(extra && !self.player.done(), 15)],
+            EXTEND_WITH | EXTEND => &[(extra, 15)],
             _ => &[],
         };
         asked.iter().find(|(refused, _)| *refused).map_or(0, |&(_, number)| number)
@@ -213,18 +233,20 @@ impl List {
             ADD => self.add(call, met),
             SKIP => {
                 self.second.skip();
-                Given { events: self.player.skip().iter().copied().collect(), ..nothing(0) }
+                Given { events: self.player.skip(), ..nothing(0) }
             }
-            EXTEND => {
-                self.second.extend();
-                let extended = self.player.extend();
-                self.touches += u32::from(extended);
+            EXTEND_WITH | EXTEND => {
+                self.second.extend(call.amount());
+                let extended = self.player.extend(call.amount());
+                if extended {
+                    self.extra.add(self.length(call), call.amount());
+                }
                 Given { extended, ..nothing(0) }
             }
             kind => panic!("there is no call {kind}"),
         };
         if self.player.summary().steps_done != done {
-            self.touches = 0;
+            self.extra = Extra::default();
         }
         for &event in &given.events {
             met.events[event_words(event).0 as usize] += 1;
@@ -242,8 +264,7 @@ impl List {
 
     fn add(&mut self, call: &Call, met: &mut Met) -> Given {
         if call.ms == 0 {
-            let events = self.player.add(0, call.mm.into(), &call.sample(), &call.profile());
-            return Given { events: events.iter().copied().collect(), ..nothing(0) };
+            return Given { events: self.player.add(0, call.mm.into(), &call.sample(), &call.profile()), ..nothing(0) };
         }
         self.count(call);
         self.sample = call.sample();
@@ -251,7 +272,7 @@ impl List {
         let update = ride(&mut self.second, call, &self.sample, met);
         if update.events.len() <= EVENTS {
             let events = self.player.add(call.ms.into(), call.mm.into(), &self.sample, &call.profile());
-            return Given { events: events.iter().copied().collect(), ..update };
+            return Given { events, ..update };
         }
         self.player.read(&self.sample);
         ride(&mut self.player, call, &self.sample, &mut Met::default());
@@ -283,7 +304,7 @@ impl List {
 }
 
 /// The loop of `add` without its `read`, composed of `until_end` and `ride_part`.
-fn ride(player: &mut Player, call: &Call, sample: &Sample, met: &mut Met) -> Given {
+fn ride(player: &mut impl Player, call: &Call, sample: &Sample, met: &mut Met) -> Given {
     let profile = call.profile();
     let (mut ms, mut mm) = (u64::from(call.ms), u64::from(call.mm));
     let (mut events, mut parts) = (Vec::new(), 0);
@@ -297,7 +318,7 @@ fn ride(player: &mut Player, call: &Call, sample: &Sample, met: &mut Met) -> Giv
             let (part_ms, part_mm) = player.until_end(ms, mm);
             ms -= part_ms;
             mm -= part_mm;
-            events.extend(player.ride_part(part_ms, part_mm, sample, &profile).iter().copied());
+            events.extend(player.ride_part(part_ms, part_mm, sample, &profile));
             parts += 1;
             let words = step_words(&on);
             met.lengths[words[1] as usize] += 1;
@@ -403,7 +424,15 @@ pub fn answer(file: &[u8], calls: &[Call], met: &mut Met) -> Vec<u32> {
     let Ok(workout) = codec::decode(file) else {
         return [vec![fallen(6)], vec![fallen(20); calls.len()]].concat().concat();
     };
-    let mut list = List::new(&workout);
+    if calls.iter().all(Call::unchanged) {
+        answer_by::<Unchanged>(&workout, calls, met)
+    } else {
+        answer_by::<Altered>(&workout, calls, met)
+    }
+}
+
+fn answer_by<P: Player>(workout: &Workout, calls: &[Call], met: &mut Met) -> Vec<u32> {
+    let mut list = List::<P>::new(workout);
     let first = calls.first().copied().unwrap_or_default();
     let mut words = list.words(&nothing(0), &first);
     for call in calls {

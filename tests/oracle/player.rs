@@ -1,13 +1,13 @@
 //! The player on both sides: the Rust's, and the Rattle's of crate `compare_player` from a static library, on lists of calls at
-//! limits and on random ones; and the Rattle's alone, of players that no list of calls reaches (`fields`). Words: how many calls
-//! at least, and the seed. Writes how many calls and words were compared and what was met. Fails where a word differs, where a
-//! kind of call, event, length, target or refusal or a failed ramp wasn't met, and where such a player isn't refused or played
-//! as document 01 has it.
+//! limits and on random ones, each extend with the Rust's own amount; and the Rattle's alone, of players that no list of calls
+//! reaches (`fields`). Other amounts are in amounts.rs. Words: how many calls at least, and the seed. Writes how many calls and
+//! words were compared and what was met. Fails where a word differs, where a kind of call, event, length, target or refusal or a
+//! failed ramp wasn't met, and where such a player isn't refused or played as document 01 has it.
 mod fields;
 
 use inputs::Random;
 use inputs::calls::{Play, limit_plays, random_play};
-use played::{Call, Met, WORDS, answer, bytes_of};
+use played::{Call, EXTEND, Met, WORDS, answer, bytes_of};
 
 #[link(name = "compare_player", kind = "static")]
 unsafe extern "C" {
@@ -73,7 +73,7 @@ fn main() {
         "player: {} lists, {} calls, {} words compared, {} lists different",
         tally.lists, tally.calls, tally.words, tally.different
     );
-    println!("calls (read, ride, add, skip, extend): {:?}", met.calls);
+    println!("calls (read, ride, add, skip, extend with 60 s and 500 m): {:?}", &met.calls[..EXTEND as usize]);
     println!("accepted, then refused by 1 to 20: {:?}", met.refused);
     println!("events (countdown, started, finished, FTP): {:?}", met.events);
     println!("updates with more than 16 events: {}", met.many_events);

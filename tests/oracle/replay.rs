@@ -1,9 +1,10 @@
 //! Whole replays on both sides: the model over the Rust (replays.rs), and the Rattle's call `replay` of crate `console` from a
-//! static library, on replays at limits and on random ones. Words: how many random ones, and the seed. Compares the refusal, its
-//! act and every byte lent, with some bytes behind those. Writes how many were compared and what was met. Fails where
-//! something differs, where a refusal or a kind wasn't met, and where fewer than half are accepted.
+//! static library, on replays at limits and on random ones. Words: how many random ones with extends of kind 4 alone, which the
+//! unchanged Rust plays, and the seed; half as many besides mix kinds 4 and 5. Compares the refusal, its act and every byte lent,
+//! with some bytes behind those. Writes how many were compared and what was met. Fails where something differs, where a refusal or
+//! a kind wasn't met, and where fewer than half are accepted.
 use inputs::Random;
-use replays::{Answer, Met, Replay, answer, limit_replays, random_replay};
+use replays::{Answer, Met, Replay, answer, limit_replays, mixed_replay, random_replay};
 
 #[repr(C)]
 struct Replayed {
@@ -96,23 +97,25 @@ fn main() {
     let mut random = Random(seed);
     let (mut tally, mut met) = (Tally::default(), Met::default());
     let limits = limit_replays();
+    let mixed = count / 2;
     limits.iter().for_each(|input| compare(input, &mut random, &mut tally, &mut met));
     let accepted = met.refused[0];
-    for _ in 0..count {
-        let input = random_replay(&mut random);
+    for i in 0..count + mixed {
+        let input = if i % 3 == 2 { mixed_replay(&mut random) } else { random_replay(&mut random) };
         compare(&input, &mut random, &mut tally, &mut met);
     }
     println!(
-        "replays: {} at limits, {count} random, {} acts in their sheets, {} bytes lent, {} different",
+        "replays: {} at limits, {count} random, {mixed} that mix kinds 4 and 5, {} acts in their sheets, {} bytes lent, {} different",
         limits.len(),
         tally.acts,
         tally.bytes,
         tally.different
     );
     println!("accepted, then refused by 1 to 20: {:?}", met.refused);
-    println!("acts carried out (profile, read, ride, skip, extend): {:?}", met.acts);
+    println!("played by the unchanged Rust: {}, by the altered one (kind 5): {}", met.sheets[0], met.sheets[1]);
+    println!("acts carried out (profile, read, ride, skip, kind 4, kind 5): {:?}", met.acts);
     println!("steps ended by riding (time, distance, open): {:?}", met.ended);
-    println!("extends (not extended, extended): {:?}", met.extended);
+    println!("extends of kind 4 and of kind 5 (not extended, extended): {:?}", met.extended);
     println!(
         "accepted: finished (no, yes) {:?}, FTP (twenty, ramp) {:?}, dated (no, yes) {:?}, sheets of 1 and of 4,096 acts {:?}",
         met.finished, met.measured, met.dated, met.acts_limits
@@ -121,7 +124,7 @@ fn main() {
     if !missing.is_empty() {
         println!("not met: {missing:?}");
     }
-    let few = 2 * (met.refused[0] - accepted) < count;
+    let few = 2 * (met.refused[0] - accepted) < count + mixed;
     if few {
         println!("fewer than half of the random ones are accepted");
     }

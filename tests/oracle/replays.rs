@@ -1,17 +1,19 @@
-//! Document 01's ride sheet and replay as a model, over the Rust's `decode`, player and `encode`; and replays to try it on, at
-//! limits and random ones from a seed. The Rust has neither a sheet nor the questions 10 to 17 and 19, so these are asked here,
-//! as the paper's sentences have them.
+//! Document 01's ride sheet and replay, with document 02's kind 5, as a model over the Rust's `decode`, player and `encode`; and
+//! replays to try it on, at limits and random ones from a seed. The Rust has neither a sheet nor the questions 10 to 17 and 19, so
+//! these are asked here, as the paper's sentences have them. A sheet without kind 5 is played by the unchanged Rust, whose `extend`
+//! is kind 4; one with it by the altered Rust (players.rs).
 use inputs::Random;
 use inputs::calls::{Play, random_play};
 use inputs::files::{limit_files, longest, random_file};
 use inputs::limits;
-use played::{Call, EXTEND, READ, RIDE, SKIP};
+use played::{Call, EXTEND, EXTEND_WITH, READ, RIDE, SKIP};
+use players::{Altered, Amount, DEFAULT, Extra, LONG, Player, Unchanged};
 use std::sync::LazyLock;
 use vana::ride::{log::Sample, zones::TrainingProfile};
 use vana::workout::codec;
 use vana::workout::history::{Record, SIZE, encode};
 use vana::workout::model::{Block, Intensity, Length, MAX_PLAYED, Step, Target, Test, Workout};
-use vana::workout::player::{EXTEND_M, EXTEND_S, Player, Summary};
+use vana::workout::player::Summary;
 
 /// The act of a refusal that names none.
 pub const NO_ACT: u32 = u32::MAX;
@@ -33,6 +35,9 @@ pub enum Act {
     /// Milliseconds and millimetres.
     Ride(u32, u32),
     Skip,
+    /// Kind 4, by 60 s or 500 m.
+    ExtendLong,
+    /// Kind 5, by the default.
     Extend,
 }
 
@@ -43,8 +48,14 @@ impl Act {
             Act::Read(_) => 1,
             Act::Ride(..) => 2,
             Act::Skip => 3,
-            Act::Extend => 4,
+            Act::ExtendLong => 4,
+            Act::Extend => 5,
         }
+    }
+
+    /// What an extend gives: "kind 4 keeps 60 s and 500 m .., and a new kind 5 means the default".
+    fn amount(&self) -> Amount {
+        if matches!(self, Act::Extend) { DEFAULT } else { LONG }
     }
 
     fn value(&self) -> [u8; 8] {
@@ -62,7 +73,7 @@ impl Act {
                 halves([power, heart, cadence, flags])
             }
             Act::Ride(ms, mm) => (u64::from(mm) << 32 | u64::from(ms)).to_le_bytes(),
-            Act::Skip | Act::Extend => [0; 8],
+            Act::Skip | Act::ExtendLong | Act::Extend => [0; 8],
         }
     }
 }
@@ -120,11 +131,13 @@ pub struct Met {
     /// Accepted, then refused by 1 to 20.
     pub refused: [u64; 21],
     /// Acts that were carried out, by kind.
-    pub acts: [u64; 5],
+    pub acts: [u64; 6],
+    /// Sheets played by the unchanged Rust, and by the altered one.
+    pub sheets: [u64; 2],
     /// Steps that riding ended: timed, distance, open (a failed ramp).
     pub ended: [u64; 3],
-    /// Extends that gave `false`, and `true`.
-    pub extended: [u64; 2],
+    /// Extends that gave `false`, and `true`: of kind 4 and of kind 5.
+    pub extended: [[u64; 2]; 2],
     /// Of the accepted: not finished and finished; with an FTP from `Twenty` and from `Ramp`; not dated and dated; with the profile
     /// alone and with `MAX_ACTS` acts.
     pub finished: [u64; 2],
@@ -144,7 +157,8 @@ impl Met {
         let mut missing: Vec<String> = refused.map(|number| format!("refusal {number}")).collect();
         missing.extend(of("act", &self.acts));
         missing.extend(of("end of a step of length", &self.ended));
-        missing.extend(of("extend", &self.extended));
+        missing.extend(of("sheets of the unchanged and of the altered Rust", &self.sheets));
+        missing.extend(of("extend", self.extended.as_flattened()));
         missing.extend(of("finished", &self.finished));
         missing.extend(of("FTP of test", &self.measured));
         missing.extend(of("dated", &self.dated));
@@ -188,32 +202,33 @@ fn act_in(first: bool, kind: u8, value: &[u8]) -> Option<Act> {
         }
         2 => Some(Act::Ride(word(0), word(4))),
         3 if unused(0) => Some(Act::Skip),
-        4 if unused(0) => Some(Act::Extend),
+        4 if unused(0) => Some(Act::ExtendLong),
+        5 if unused(0) => Some(Act::Extend),
         _ => None,
     }
 }
 
-/// A ride being replayed. The questions' totals and the touches of the step on now are counted here, since the Rust's are private.
-struct Ridden {
-    player: Player,
+/// A ride being replayed. The questions' totals and the extra of the step on now are counted here, since the Rust's are private.
+struct Ridden<P> {
+    player: P,
     steps: Vec<Step>,
     profile: TrainingProfile,
     sample: Sample,
     total_ms: u64,
     total_mm: u64,
-    touches: u32,
+    extra: Extra,
 }
 
-impl Ridden {
+impl<P: Player> Ridden<P> {
     fn new(workout: &Workout) -> Self {
         Self {
-            player: Player::new(*workout),
+            player: P::of(workout),
             steps: workout.played().map(|played| played.step).collect(),
             profile: TrainingProfile { ftp_watts: 0, lthr_bpm: 0 },
             sample: Sample::default(),
             total_ms: 0,
             total_mm: 0,
-            touches: 0,
+            extra: Extra::default(),
         }
     }
 
@@ -233,11 +248,11 @@ impl Ridden {
             {
                 13
             }
-            Act::Extend => match self.on().map(|step| step.length) {
-                Some(Length::Time(_)) if (self.touches + 1) * EXTEND_S > 86_400 => 15,
-                Some(Length::Distance(_)) if (self.touches + 1) * EXTEND_M > 1_000_000 => 15,
-                _ => 0,
-            },
+            Act::ExtendLong | Act::Extend
+                if self.on().is_some_and(|step| self.extra.refuses(step.length, act.amount())) =>
+            {
+                15
+            }
             _ => 0,
         }
     }
@@ -259,14 +274,18 @@ impl Ridden {
                 self.ride(ms.into(), mm.into(), met);
             }
             Act::Skip => _ = self.player.skip(),
-            Act::Extend => {
-                let extended = self.player.extend();
-                self.touches += u32::from(extended);
-                met.extended[usize::from(extended)] += 1;
-            }
+            Act::ExtendLong | Act::Extend => self.extend(act, met),
         }
         if self.player.summary().steps_done != done {
-            self.touches = 0;
+            self.extra = Extra::default();
+        }
+    }
+
+    fn extend(&mut self, act: &Act, met: &mut Met) {
+        let extended = self.player.extend(act.amount());
+        met.extended[usize::from(act.kind() == 5)][usize::from(extended)] += 1;
+        if let Some(step) = self.on().filter(|_| extended) {
+            self.extra.add(step.length, act.amount());
         }
     }
 
@@ -299,13 +318,10 @@ fn record(replay: &Replay, met: &mut Met) -> Result<Record, Refused> {
     if replay.room < SIZE {
         return Err((19, NO_ACT));
     }
-    let mut ridden = Ridden::new(&workout);
-    for (i, act) in acts.iter().enumerate() {
-        match ridden.refusal(act) {
-            0 => ridden.carry_out(act, met),
-            number => return Err((number, i as u32)),
-        }
-    }
+    let altered = acts.iter().any(|act| matches!(act, Act::Extend));
+    met.sheets[usize::from(altered)] += 1;
+    let summary =
+        if altered { ridden::<Altered>(&workout, &acts, met)? } else { ridden::<Unchanged>(&workout, &acts, met)? };
     met.acts_limits[0] += u64::from(acts.len() == 1);
     met.acts_limits[1] += u64::from(acts.len() == MAX_ACTS);
     Ok(Record {
@@ -314,8 +330,19 @@ fn record(replay: &Replay, met: &mut Met) -> Result<Record, Refused> {
         started_utc_ms: (replay.dated != 0).then_some(replay.start),
         name: workout.name,
         test: workout.test,
-        summary: ridden.player.summary(),
+        summary,
     })
+}
+
+fn ridden<P: Player>(workout: &Workout, acts: &[Act], met: &mut Met) -> Result<Summary, Refused> {
+    let mut ridden = Ridden::<P>::new(workout);
+    for (i, act) in acts.iter().enumerate() {
+        match ridden.refusal(act) {
+            0 => ridden.carry_out(act, met),
+            number => return Err((number, i as u32)),
+        }
+    }
+    Ok(ridden.player.summary())
 }
 
 /// What document 01 has of a replay.
@@ -405,7 +432,7 @@ fn act_limits() -> Vec<Replay> {
     }
     // 13 at its limit, past it by time and by way, with no time, after the end; 12 before it.
     for last in
-        [Act::Ride(0, 0), Act::Ride(0, 1), Act::Ride(1, 0), Act::Ride(1, 1), Act::Ride(DAY_MS + 1, 0), Act::Extend]
+        [Act::Ride(0, 0), Act::Ride(0, 1), Act::Ride(1, 0), Act::Ride(1, 1), Act::Ride(DAY_MS + 1, 0), Act::ExtendLong]
     {
         replays.push(play(&open, &[&[day; 7], &[last][..]].concat()));
         replays.push(play(&timed, &[&[way; 7], &[last][..]].concat()));
@@ -414,22 +441,99 @@ fn act_limits() -> Vec<Replay> {
     // 15 at its limit and past it; in the step after it; open and finished.
     for (workout, touches) in [(&timed, 1_440), (&timed, 1_441), (&distance, 2_000), (&distance, 2_001), (&open, 2_100)]
     {
-        replays.push(play(workout, &vec![Act::Extend; touches]));
+        replays.push(play(workout, &vec![Act::ExtendLong; touches]));
     }
     replays.push(play(
         &timed,
-        &[&vec![Act::Extend; 1_440], &[Act::Skip, Act::Extend, Act::Skip, Act::Extend][..]].concat(),
+        &[&vec![Act::ExtendLong; 1_440], &[Act::Skip, Act::ExtendLong, Act::Skip, Act::ExtendLong][..]].concat(),
     ));
-    replays.push(play(&distance, &[Act::Extend, Act::Ride(1_000, 600_001), Act::Extend, Act::Ride(60_999, 0)]));
+    replays.push(play(&distance, &[Act::ExtendLong, Act::Ride(1_000, 600_001), Act::ExtendLong, Act::Ride(60_999, 0)]));
     // Two lines of the bench sheet.
     replays.push(play(&distance, &[Act::Ride(3_000, 150_000)]));
     replays.push(play(&distance, &[Act::Ride(1, 500_000)]));
     replays
 }
 
-/// A short sheet with an act of each kind.
+/// Kinds 4 and 5, alone and together: what they give to each length of step, and question 15 at both sides of its limits.
+fn extend_limits() -> Vec<Replay> {
+    use Act::{Extend, ExtendLong, Ride, Skip};
+    let step = |length, low| Step::new(Intensity::Work, length, Target::Watts { low, high: 200 });
+    let timed = file("TIMED", &[step(Length::Time(10), 100), step(Length::Time(10), 180)], &[], None);
+    let distance = file("WAY", &[step(Length::Distance(100), 100), step(Length::Time(10), 180)], &[], None);
+    let open = file("OPEN", &[step(Length::Open, 100), step(Length::Time(10), 180)], &[], None);
+    let twenty = Step::new(Intensity::Test, Length::Time(10), Target::Free);
+    let test = file("TEST", &[twenty], &[], Some(Test::Twenty));
+    let play = |workout: &Vec<u8>, acts: &[Act]| {
+        replay_of(workout.clone(), with_profile(&[&[read(Some(150), None, None)], acts].concat()))
+    };
+    let mut replays = Vec::new();
+    // 1 ms and 1 mm before the step's end, at it and past it.
+    for (extends, secs, metres) in [
+        (&[ExtendLong][..], 60, 500),
+        (&[Extend], 30, 250),
+        (&[Extend, Extend], 60, 500),
+        (&[Extend, ExtendLong], 90, 750),
+        (&[ExtendLong, Extend], 90, 750),
+        (&[Extend, ExtendLong, Extend], 120, 1_000),
+    ] {
+        for more in 0..3 {
+            let (ms, mm) = (1_000 * (10 + secs) - 1 + more, 1_000 * (100 + metres) - 1 + more);
+            replays.push(play(&timed, &[extends, &[Ride(ms, 0)]].concat()));
+            replays.push(play(&test, &[extends, &[Ride(ms, 0)]].concat()));
+            replays.push(play(&distance, &[extends, &[Ride(ms, mm)]].concat()));
+        }
+        replays.push(play(&timed, &[&[Ride(9_999, 0)], extends, &[Ride(1_000 * secs + 1, 0)]].concat()));
+        replays.push(play(&open, &[extends, &[Ride(60_000, 0), Skip, Ride(10_000, 0)]].concat()));
+    }
+    // The step after it has none of it; finished, it gives nothing; as the first act it is no profile.
+    replays.push(play(&timed, &[Extend, Skip, Ride(9_999, 0)]));
+    replays.push(play(&timed, &[Extend, Skip, Ride(10_000, 0)]));
+    replays.push(play(&timed, &[Skip, Extend, Skip, Extend, ExtendLong, Ride(40_000, 0)]));
+    replays.push(play(&distance, &[Extend, Skip, Extend, Skip, Extend]));
+    replays.push(replay_of(first_file(), sheet_of(&[Extend])));
+    replays.push(replay_of(first_file(), sheet_of(&[Extend, PROFILE])));
+    // 86,370 s and 999,750 m, by both kinds and by 2,879 and 3,999 of kind 5: kind 5 comes to the limit, kind 4 past it. Then
+    // nothing more of either, but in the next step.
+    for (workout, long, times) in [(&timed, 1_439, 2_879), (&distance, 1_999, 3_999)] {
+        let both = [&vec![ExtendLong; long], &[Extend][..]].concat();
+        for last in
+            [&[Extend][..], &[ExtendLong], &[Extend, Extend], &[Extend, ExtendLong], &[Extend, Skip, ExtendLong]]
+        {
+            replays.push(play(workout, &[&both, last].concat()));
+            replays.push(play(workout, &[&vec![Extend; times], last].concat()));
+        }
+    }
+    replays.push(play(&open, &vec![Extend; 4_001]));
+    replays.push(play(&timed, &[&[Skip, Skip][..], &vec![Extend; 2_881]].concat()));
+    replays
+}
+
+/// A short sheet with an act of each kind but 5.
 fn each_kind() -> Vec<Act> {
-    vec![PROFILE, read(Some(150), None, Some(900)), Act::Ride(2_000, 9_000), Act::Extend, Act::Skip]
+    vec![PROFILE, read(Some(150), None, Some(900)), Act::Ride(2_000, 9_000), Act::ExtendLong, Act::Skip]
+}
+
+/// Kind 5 in question 17: in place of kind 4, as other kinds, and each byte of its value.
+fn default_sheets() -> Vec<Replay> {
+    let acts: Vec<Act> = each_kind().into_iter().map(|act| if act.kind() == 4 { Act::Extend } else { act }).collect();
+    let (whole, n) = (sheet_of(&acts), acts.len());
+    let at = acts.iter().position(|act| act.kind() == 5).unwrap();
+    let mut sheets = vec![whole.clone()];
+    for kind in [4, 5, 6, 7, 127, 128, 133, 255] {
+        for at in [at, n - 1] {
+            let mut sheet = whole.clone();
+            sheet[2 + at] = kind;
+            sheets.push(sheet);
+        }
+    }
+    for byte in 0..8 {
+        for value in [1, 5, 128, 255] {
+            let mut sheet = whole.clone();
+            sheet[2 + n + 8 * at + byte] = value;
+            sheets.push(sheet);
+        }
+    }
+    sheets.into_iter().map(|sheet| replay_of(first_file(), sheet)).collect()
 }
 
 /// Questions 16 and 17: lengths, kinds, and each byte of each act's value.
@@ -543,6 +647,7 @@ fn act_of(call: &Call) -> Option<Act> {
         READ => Some(Act::Read(call.sample())),
         RIDE => Some(Act::Ride(call.ms, call.mm)),
         SKIP => Some(Act::Skip),
+        EXTEND_WITH if call.amount() == LONG => Some(Act::ExtendLong),
         EXTEND => Some(Act::Extend),
         _ => None,
     }
@@ -566,7 +671,7 @@ fn player_limits() -> Vec<Replay> {
 pub fn limit_replays() -> Vec<Replay> {
     let first = replay_of(first_file(), with_profile(&[read(Some(150), None, None), Act::Ride(10_000, 0)]));
     let limits = [file_limits(), act_limits(), sheet_limits(), long_sheets(), question_order(), record_limits()];
-    [vec![first], limits.concat(), player_limits()].concat()
+    [vec![first], limits.concat(), player_limits(), extend_limits(), default_sheets()].concat()
 }
 
 // ---- random replays
@@ -641,7 +746,7 @@ fn ride(random: &mut Random, rider: &Rider) -> Act {
 fn act(random: &mut Random, rider: &Rider) -> Act {
     match random.below(24) {
         0 => Act::Skip,
-        1 | 2 => Act::Extend,
+        1 | 2 => Act::ExtendLong,
         3..=11 => reading(random, rider.watts),
         _ => ride(random, rider),
     }
@@ -666,6 +771,18 @@ fn acts(random: &mut Random) -> Vec<Act> {
     acts
 }
 
+/// Half of the extends are of kind 5, and there is one at least.
+fn mix(random: &mut Random, acts: &mut Vec<Act>) {
+    for act in acts.iter_mut().filter(|act| matches!(act, Act::ExtendLong)) {
+        if once_in(random, 2) {
+            *act = Act::Extend;
+        }
+    }
+    let at = 1 + random.below(acts.len() as u32) as usize;
+    acts.insert(at, Act::Extend);
+    acts.truncate(MAX_ACTS);
+}
+
 /// A workout file of any content, a refused one often, by each number.
 fn any_file(random: &mut Random) -> Vec<u8> {
     if once_in(random, 2) {
@@ -675,8 +792,23 @@ fn any_file(random: &mut Random) -> Vec<u8> {
     files[random.below(files.len() as u32) as usize].clone()
 }
 
+/// Extends to question 15's limit of time or of way and past it: by kind 4, or by kind 5, or by kind 4 up to what kind 5 still has
+/// room in.
+fn touches(random: &mut Random, both: bool) -> Vec<Act> {
+    let long = one_of(random, &[1_440, 1_441, 2_000, 2_001]);
+    if !both {
+        return vec![Act::ExtendLong; long];
+    }
+    let last = one_of(random, &[Act::ExtendLong, Act::Extend]);
+    match random.below(3) {
+        0 => vec![Act::Extend; one_of(random, &[2_880, 2_881, 4_000, 4_001])],
+        1 => [&vec![Act::Extend; one_of(random, &[2_879, 3_999])], &[last][..]].concat(),
+        _ => [&vec![Act::ExtendLong; long - 2], &[Act::Extend, last][..]].concat(),
+    }
+}
+
 /// An act that a question refuses, or some that come to a limit of totals or touches, put in at some place.
-fn faulty(random: &mut Random, acts: &mut Vec<Act>, fault: u32) {
+fn faulty(random: &mut Random, acts: &mut Vec<Act>, fault: u32, both: bool) {
     let at = 1 + random.below(acts.len() as u32) as usize;
     let acts_in = match fault {
         10 => {
@@ -699,7 +831,7 @@ fn faulty(random: &mut Random, acts: &mut Vec<Act>, fault: u32) {
             rides.push(one_of(random, &[Act::Ride(0, 0), Act::Ride(0, 1), Act::Ride(1, 0), Act::Ride(1, 1)]));
             rides
         }
-        _ => vec![Act::Extend; one_of(random, &[1_440, 1_441, 2_000, 2_001])],
+        _ => touches(random, both),
     };
     acts.splice(at..at, acts_in);
     acts.truncate(MAX_ACTS);
@@ -717,7 +849,7 @@ fn damage(random: &mut Random, sheet: &mut Vec<u8>) {
             let count = one_of(random, &[0, n - 1, n + 1, MAX_ACTS, MAX_ACTS + 1, n + 256]) as u16;
             sheet[..2].copy_from_slice(&count.to_le_bytes());
         }
-        3 => sheet[2 + act] = one_of(random, &[0, 1, 2, 3, 4, 5, 127, 128, 255]),
+        3 => sheet[2 + act] = one_of(random, &[0, 1, 2, 3, 4, 5, 6, 127, 128, 255]),
         // Another flag, a present reading without its flag, or a flag alone.
         4 | 5 => sheet[value + 6] ^= 1 << random.below(8),
         6 => sheet[value + 7] = 1 << random.below(8),
@@ -735,8 +867,17 @@ fn damage(random: &mut Random, sheet: &mut Vec<u8>) {
 }
 
 /// A random replay: most often of a workout that can be played and a sheet without a fault, else with one fault or more, so that
-/// the order of the questions shows.
+/// the order of the questions shows. Its extends are of kind 4, so that it is the unchanged Rust's.
 pub fn random_replay(random: &mut Random) -> Replay {
+    some_replay(random, false)
+}
+
+/// The same with extends of both kinds.
+pub fn mixed_replay(random: &mut Random) -> Replay {
+    some_replay(random, true)
+}
+
+fn some_replay(random: &mut Random, both: bool) -> Replay {
     const FAULTS: [u32; 16] = [1, 1, 1, 1, 1, 10, 11, 12, 12, 13, 13, 15, 16, 16, 16, 19];
     let faults: Vec<u32> = match random.below(100) {
         0..64 => vec![],
@@ -745,8 +886,11 @@ pub fn random_replay(random: &mut Random) -> Replay {
     };
     let workout = if faults.contains(&1) { any_file(random) } else { random_play(random).file };
     let mut acts = acts(random);
+    if both {
+        mix(random, &mut acts);
+    }
     for &fault in faults.iter().filter(|fault| (10..16).contains(*fault)) {
-        faulty(random, &mut acts, fault);
+        faulty(random, &mut acts, fault, both);
     }
     let mut sheet = sheet_of(&acts);
     if faults.contains(&16) {
