@@ -1,1 +1,2 @@
 pub mod BenchRide
+pub mod Extends

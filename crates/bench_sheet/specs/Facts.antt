@@ -1,11 +1,14 @@
--- Examples of document 01's sentences beside its bench sheet, and of the Rust where the paper says 'as there': averages, bands, parts,
--- countdowns, seconds left, ramps. The definitions are held against these: one made wrong together with the code is refused here.
+-- Examples of document 01's sentences beside its bench sheet, of the Rust where the paper says 'as there', and of document 02's requests:
+-- averages, bands, parts, countdowns, seconds left, ramps, extends. The definitions are held against these: one made wrong together with
+-- the code is refused here.
 use mathlib.Core.Path.{_≡_}
 use mathlib.Core.List.{[], _∷_}
 use Prim.Native.Nat.{ℕ}
+use Rattle.refusal.specs.declared.Answer.the-variants.{Accepted, Refused}
+use Rattle.refusal.specs.declared.Refusal.the-variants as refusals
 use Rattle.names.specs.Names.{emptyName}
 use Rattle.zones.specs.Zones.{heartZone}
-use Rattle.model.specs.declared.Length.the-variants.{Time, Open}
+use Rattle.model.specs.declared.Length.the-variants.{Time, Distance, Open}
 use Rattle.model.specs.declared.Intensity.the-variants as intensities
 use Rattle.model.specs.declared.Target.{Target}
 use Rattle.model.specs.declared.Target.the-variants as targets
@@ -28,7 +31,7 @@ use Rattle.state.specs.declared.Player.{Player}
 use Rattle.start.specs.Start.{newOf}
 use Rattle.screen.specs.declared.SecsOption.{SecsOption}
 use Rattle.screen.specs.declared.SecsOption.the-variants as seconds
-use Rattle.player.specs.Calls.{readOf}
+use Rattle.player.specs.Calls.{readOf, extendWith, extendOf}
 use Rattle.reports.specs.Reports.{remainingSecs}
 use Rattle.bench_sheet.specs.BenchSheet.{profile, inOrder, step, watts, ridden, twoSteps}
 
@@ -73,6 +76,12 @@ abbrev pub ramping : ℕ → ℕ → Player
 ramping every power =
     let up : Step = record { intensity = intensities.Test; length = Open; target = targets.Ramp 100 20 every; note = emptyName } in
     readOf (newOf (inOrder tests.Ramp (up ∷ [])) .player) (watts power) .player
+
+abbrev pub hundredMetres : Player
+hundredMetres = newOf (inOrder tests.None (step intensities.Work (Distance 100) ∷ [])) .player
+
+abbrev pub metresMore : Player → ℕ
+metresMore p = p .core .lap .«extra_m»
 
 pub record Facts : Type 0 where
   -- "Readings 100, 101: 101.", and of three: rounded half up
@@ -120,5 +129,11 @@ pub record Facts : Type 0 where
   pub gives-up : ridden (ramping 10 89) 10000 .events ≡ event 2 0 ∷ []
   pub just-not : (ridden (ramping 10 89) 9999 .events ≡ []) × (ridden (after (ramping 10 89) 9999) 1 .events ≡ event 2 0 ∷ [])
   pub holds : ridden (after (ramping 10 90) 9999) 1 .events ≡ []
+  -- document 02, i: "The plain extend call now gives 30 s or 250 m.", and a call with the amount
+  pub plain : (secondsLeft (extendOf twoSteps .player) ≡ seconds.Some 50) × (metresMore (extendOf hundredMetres .player) ≡ 250)
+  pub by-amount : (secondsLeft (extendWith 60 500 twoSteps .player) ≡ seconds.Some 80) × (metresMore (extendWith 60 500 hundredMetres .player) ≡ 500)
+  -- "its extra at most 86,400 s or 1,000,000 m after it? 15"
+  pub most-seconds : (extendWith 86400 0 twoSteps .answer ≡ Accepted) × (extendWith 86401 0 twoSteps .answer ≡ Refused refusals.Extra)
+  pub most-metres : (extendWith 0 1000000 hundredMetres .answer ≡ Accepted) × (extendWith 0 1000001 hundredMetres .answer ≡ Refused refusals.Extra)
   -- player.rs, `ramp_failed`: not before the first stage's end
   pub first-stage : (ridden (ramping 20 89) 19999 .events ≡ []) × (ridden (ramping 20 89) 20000 .events ≡ event 2 0 ∷ [])
