@@ -2,6 +2,7 @@
 -- averages, bands, parts, countdowns, seconds left, ramps, extends. The definitions are held against these: one made wrong together with
 -- the code is refused here.
 use mathlib.Core.Path.{_≡_}
+use mathlib.Core.Bool.{true, false}
 use mathlib.Core.List.{[], _∷_}
 use Prim.Native.Nat.{ℕ}
 use Rattle.refusal.specs.declared.Answer.the-variants.{Accepted, Refused}
@@ -135,5 +136,8 @@ pub record Facts : Type 0 where
   -- "its extra at most 86,400 s or 1,000,000 m after it? 15"
   pub most-seconds : (extendWith 86400 0 twoSteps .answer ≡ Accepted) × (extendWith 86401 0 twoSteps .answer ≡ Refused refusals.Extra)
   pub most-metres : (extendWith 0 1000000 hundredMetres .answer ≡ Accepted) × (extendWith 0 1000001 hundredMetres .answer ≡ Refused refusals.Extra)
+  -- 0 at the limit is let through; "Open or finished gives `false`, no refusal."
+  pub none-more : extendWith 0 0 (extendWith 86400 0 twoSteps .player) .extended ≡ true
+  pub not-extended : (extendOf (ramping 10 90) .extended ≡ false) × (extendOf (after threeSteps 30000) .extended ≡ false)
   -- player.rs, `ramp_failed`: not before the first stage's end
   pub first-stage : (ridden (ramping 20 89) 19999 .events ≡ []) × (ridden (ramping 20 89) 20000 .events ≡ event 2 0 ∷ [])

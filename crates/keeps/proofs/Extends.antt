@@ -31,9 +31,9 @@ module _ (p : Player) (e : standingOf p ≡ true) where
   finished : (secs metres : ℕ) → p .core .done ≡ true → extendWith secs metres p ≡ notExtended Accepted p
   finished secs metres d = past-20 secs metres ∙ ap (λ (b : Bool). extendNow secs metres b p) d
 
-  unended : (secs metres : ℕ) → p .core .on .length ≡ Open → extendWith secs metres p ≡ notExtended Accepted p
+  open-step : (secs metres : ℕ) → p .core .on .length ≡ Open → extendWith secs metres p ≡ notExtended Accepted p
   unfolding extendBy extendCore
-  unended secs metres o = past-20 secs metres ∙ at (p .core .done)
+  open-step secs metres o = past-20 secs metres ∙ at (p .core .done)
     where
       at : (d : Bool) → extendNow secs metres d p ≡ notExtended Accepted p
       at true = refl
@@ -62,7 +62,7 @@ pub idle-extends : IdleExtends
 idle-extends =
     record {
       finished = λ p secs metres e d. finished p e secs metres d;
-      unended = λ p secs metres e o. unended p e secs metres o;
+      open-step = λ p secs metres e o. open-step p e secs metres o;
       timed = λ p time metres e d o. timed p e d time metres o;
       distance = λ p way secs e d o. distance p e d way secs o;
     }

@@ -17,8 +17,8 @@ extendedByNone p = record { answer = Accepted; player = p; extended = true }
 pub record IdleExtends : Type 0 where
   -- "Open or finished gives `false`, no refusal", whatever the amount.
   pub finished : (p : Player) (secs metres : ℕ) → standingOf p ≡ true → p .core .done ≡ true → extendWith secs metres p ≡ notExtended Accepted p
-  pub unended : (p : Player) (secs metres : ℕ) → standingOf p ≡ true → p .core .on .length ≡ Open → extendWith secs metres p ≡ notExtended Accepted p
-  -- "15 of the step's own unit": an amount of 0 is within it at the limit too, whatever the other unit's amount.
+  pub open-step : (p : Player) (secs metres : ℕ) → standingOf p ≡ true → p .core .on .length ≡ Open → extendWith secs metres p ≡ notExtended Accepted p
+  -- Question 15 is asked of the step's own unit, and 0 of it is let through at the limit too, whatever the other amount is.
   pub timed : (p : Player) (time metres : ℕ) → standingOf p ≡ true → p .core .done ≡ false → p .core .on .length ≡ Time time
       → extendWith 0 metres p ≡ extendedByNone p
   pub distance : (p : Player) (way secs : ℕ) → standingOf p ≡ true → p .core .done ≡ false → p .core .on .length ≡ Distance way

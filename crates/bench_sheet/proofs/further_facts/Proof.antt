@@ -68,6 +68,8 @@ returns c =
       by-amount = (refl, refl);
       most-seconds = (refl, refl);
       most-metres = (refl, refl);
+      none-more = refl;
+      not-extended = (refl, refl);
       first-stage = (refl, refl);
     }
 
