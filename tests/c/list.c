@@ -56,7 +56,7 @@ int main(int words, char **word) {
     extended_long += has(sheet, EXTEND_LONG);
     extended += has(sheet, EXTEND);
   }
-  printf("the fixed list: %u replays, %u accepted, %u of them with kind 4 and %u with kind 5, as the Rust has them\n", replays,
+  printf("the fixed list: %u replays, %u accepted, %u of them with kind 4 and %u with kind 5, none different\n", replays,
          accepted, extended_long, extended);
   return replays < 500 || extended_long == 0 || extended == 0;
 }

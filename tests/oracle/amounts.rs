@@ -3,32 +3,15 @@
 //! words (played.rs) beside; random lists of calls have the altered Rust's words after each call. Words: how many random lists, and
 //! the seed. Writes how many were compared, and the extends by kind of step and outcome. Fails on a difference, and where an
 //! outcome wasn't met.
+mod ours;
+
 use inputs::Random;
 use inputs::calls::{Play, random_play};
-use played::{Call, EXTEND, EXTEND_WITH, Met, READ, RIDE, SET, SKIP, WORDS, answer, bytes_of};
+use ours::ours;
+use played::{Call, EXTEND, EXTEND_WITH, Met, READ, RIDE, SET, SKIP, WORDS, answer};
 use players::Amount;
 use vana::workout::codec;
 use vana::workout::model::{Intensity, Length, Step, Target, Workout};
-
-#[link(name = "compare_player", kind = "static")]
-unsafe extern "C" {
-    /// As many words of the answer as there are places for. A slice goes as its pointer and its length.
-    safe fn compare_player(
-        file: *const u8,
-        file_length: usize,
-        calls: *const u8,
-        calls_length: usize,
-        answer: *mut u32,
-        places: usize,
-    );
-}
-
-fn ours(file: &[u8], calls: &[Call]) -> Vec<u32> {
-    let list = bytes_of(calls);
-    let mut answer = vec![0; WORDS * (calls.len() + 1)];
-    compare_player(file.as_ptr(), file.len(), list.as_ptr(), list.len(), answer.as_mut_ptr(), answer.len());
-    answer
-}
 
 /// Places of the words after a call: refusal, `extended`, finished, `until_end`, and what is left (0 seconds, 1 metres, 2 open) with
 /// its number.

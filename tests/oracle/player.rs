@@ -4,30 +4,12 @@
 //! words were compared and what was met. Fails where a word differs, where a kind of call, event, length, target or refusal or a
 //! failed ramp wasn't met, and where such a player isn't refused or played as document 01 has it.
 mod fields;
+mod ours;
 
 use inputs::Random;
 use inputs::calls::{Play, limit_plays, random_play};
-use played::{Call, EXTEND, Met, WORDS, answer, bytes_of};
-
-#[link(name = "compare_player", kind = "static")]
-unsafe extern "C" {
-    /// As many words of the answer as there are places for. A slice goes as its pointer and its length.
-    safe fn compare_player(
-        file: *const u8,
-        file_length: usize,
-        calls: *const u8,
-        calls_length: usize,
-        answer: *mut u32,
-        places: usize,
-    );
-}
-
-fn ours(file: &[u8], calls: &[Call]) -> Vec<u32> {
-    let list = bytes_of(calls);
-    let mut answer = vec![0; WORDS * (calls.len() + 1)];
-    compare_player(file.as_ptr(), file.len(), list.as_ptr(), list.len(), answer.as_mut_ptr(), answer.len());
-    answer
-}
+use ours::ours;
+use played::{Call, EXTEND, Met, WORDS, answer};
 
 /// Lists that differ are written out up to the call after which they do, so many of them.
 const SHOWN: u64 = 3;

@@ -1,4 +1,4 @@
--- The list of the Rust's answers, and what replaying it finds. An entry is a question, the number of its input's bytes, the
+-- The list of answers, and what replaying it finds. An entry is a question, the number of its input's bytes, the
 -- input, the number of its answer's words, and the words; each number and word is 4 bytes, little-endian.
 use mathlib.Core.Bool.{Bool, true, false, cond, _&&_}
 use mathlib.Core.List.{List}

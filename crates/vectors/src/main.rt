@@ -1,4 +1,4 @@
-// Replays the fixed lists of the Rust's answers, data/answers, data/players and data/replays, which tests/oracle/vectors makes, and
+// Replays the fixed lists of answers, data/answers, data/players and data/replays, which tests/oracle/vectors makes, and
 // writes for each question how many answers were compared and how many differ.
 ghost use mathlib.Core.Path.{_≡_};
 ghost use lib.ListN.{length};
