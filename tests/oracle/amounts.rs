@@ -44,6 +44,7 @@ struct Tally {
     different: u64,
     cases: u64,
     wrong: u64,
+    met: Met,
     /// By the step (timed, distance, open, finished), the call (with an amount, plain) and what came of it (extended, not
     /// extended, refused by 15).
     extends: [[[u64; 3]; 2]; 4],
@@ -68,9 +69,9 @@ impl Tally {
         none(&self.extends[..2], 0) || none(&self.extends[..2], 2) || none(&self.extends[2..], 1)
     }
 
-    /// Compares a list with the altered Rust.
+    /// Compares a list with the altered Rust, or with the unchanged one where all its extends are that one's (played.rs).
     fn compare(&mut self, play: &Play) {
-        let judged = answer(&play.file, &play.calls, &mut Met::default());
+        let judged = answer(&play.file, &play.calls, &mut self.met);
         let ours = ours(&play.file, &play.calls);
         self.lists += 1;
         self.calls += play.calls.len() as u64;
@@ -330,12 +331,13 @@ fn main() {
     }
     println!("amounts: {} cases by hand, {} not as the request has them", tally.cases, tally.wrong);
     println!(
-        "{} lists with the altered Rust, {} calls, {} words compared, {} lists different",
+        "{} lists with the Rust, {} calls, {} words compared, {} lists different",
         tally.lists,
         tally.calls,
         WORDS as u64 * (tally.lists + tally.calls),
         tally.different
     );
+    println!("{}", tally.met.judged());
     for (step, extends) in ["timed", "distance", "open", "finished"].iter().zip(tally.extends) {
         println!(
             "{step}: extends with an amount (extended, not, refused by 15) {:?}, plain {:?}",

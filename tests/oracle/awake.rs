@@ -121,6 +121,7 @@ type Comparison = (&'static str, &'static str);
 const PLAYER: Comparison = ("player", "0 1");
 const REPLAY: Comparison = ("replay", "0 1");
 const AMOUNTS: Comparison = ("amounts", "0 1");
+const TWO_TESTS: Comparison = ("two_tests", "0 1");
 const COMPARE: Comparison = ("compare", "0 1");
 const CUTTING: Comparison = ("cutting", "300 1");
 
@@ -131,7 +132,8 @@ fn comparisons(file: &str) -> &'static [Comparison] {
         "played.rs" | "players.rs" => &[PLAYER, REPLAY, AMOUNTS],
         "replays.rs" => &[REPLAY],
         "fields.rs" => &[PLAYER],
-        "machine.rs" => &[CUTTING],
+        "machine.rs" | "cutting.rs" => &[CUTTING],
+        "build" | "two_tests.rs" => &[TWO_TESTS],
         _ => &[COMPARE, PLAYER],
     }
 }
@@ -149,7 +151,7 @@ fn main() {
     let (said, found) = copy.different();
     println!("no change | {said}");
     missed += usize::from(found);
-    for (program, words) in [PLAYER, REPLAY, AMOUNTS, COMPARE, CUTTING] {
+    for (program, words) in [PLAYER, REPLAY, AMOUNTS, TWO_TESTS, COMPARE, CUTTING] {
         copy.build(program);
         let (said, found) = copy.run(program, words);
         println!("no change | {program} {words}: {}", if found { &said } else { "nothing" });

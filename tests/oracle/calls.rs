@@ -63,7 +63,28 @@ fn workout(random: &mut Random) -> WorkoutWords {
         let runs = if random.once_in(3) { most } else { random.within(1, most.min(9)) };
         workout.blocks.push([first, len, runs]);
     }
+    if random.once_in(3) {
+        keep_one_test(random, &mut workout);
+    }
     workout
+}
+
+/// Leaves one test step, played once and soon: such a workout is compared with the unchanged Rust for FTP too.
+fn keep_one_test(random: &mut Random, workout: &mut WorkoutWords) {
+    let kept = random.below(3.min(workout.steps.len() as u32));
+    workout.test = random.within(1, 2);
+    for (i, step) in workout.steps.iter_mut().enumerate() {
+        match (i == kept as usize, step.intensity) {
+            (true, _) => step.intensity = 4,
+            (false, 4) => step.intensity = 1,
+            _ => {}
+        }
+    }
+    for [first, len, runs] in &mut workout.blocks {
+        if (*first..*first + *len).contains(&kept) {
+            *runs = 1;
+        }
+    }
 }
 
 /// Readings of one rider, now and then absent or anything.

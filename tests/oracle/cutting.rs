@@ -1,16 +1,18 @@
 //! Lists of calls whose rides are cut at random: the Rattle's player of crate `compare_cut`, from a static library, against
 //! document 01's millisecond machine (machine.rs), call by call of the cut list for refusals, and after each call of the uncut
 //! list for the record's fields and the started, finished and FTP events given so far; and the Rust's player on what isn't refused
-//! of the cut list: the altered one in every list, the unchanged one too until an extend comes that it hasn't. A third of the
-//! lists mix the extends: with 60 s and 500 m, plain, with any amount; the others have the first alone. Rides and skips are lent
-//! exactly the places that question 14 wants then, one fewer in either array, more, 193, or none. Words: how many lists, and the
-//! seed. Fails on a difference, and where a refusal, a kind of event, an extend of each kind accepted and refused by 15, or a call
-//! with exact arrays, before the finish and after it, wasn't met.
+//! of the cut list: the altered one in every list, the unchanged one too until an extend comes that it hasn't, without FTP and its
+//! events where more than one test step is played. A third of the lists mix the extends: with 60 s and 500 m, plain, with any
+//! amount; the others have the first alone. A sixth are rides to the end of short tests. Rides and skips are lent exactly the
+//! places that question 14 wants then, one fewer in either array, more, 193, or none. Words: how many lists, and the seed. Fails on
+//! a difference, and where a refusal, a kind of event, an extend of each kind accepted and refused by 15, a call with exact arrays,
+//! before the finish and after it, an FTP in a list with at most one played test step, or two different ones in one with more
+//! wasn't met.
 mod machine;
 
 use inputs::Random;
 use machine::{Event, Machine, Piece};
-use players::{Altered, Amount, DEFAULT, LONG, Player, Unchanged};
+use players::{Altered, Amount, DEFAULT, LONG, Player, Unchanged, compared_for_ftp};
 use vana::ride::{log::Sample, zones::TrainingProfile};
 use vana::workout::model::{Block, Intensity, Length, Step, Target, Test, Workout};
 use vana::workout::{codec, player};
@@ -32,6 +34,11 @@ unsafe extern "C" {
 /// FTP, steps done, steps, skipped, finished.
 const WORDS: usize = 11;
 const NO_EVENTS: u32 = 7;
+/// The kind of an FTP event.
+const FTP: u32 = 3;
+
+/// The words after a call but for the refusal.
+type Words = [u32; WORDS - 1];
 
 /// The places that a ride or a skip is lent, of kinds and of values: so many, or so many more than question 14 wants then.
 #[derive(Clone, Copy, Debug)]
@@ -114,8 +121,7 @@ fn check_word(events: &[Event]) -> u32 {
     })
 }
 
-/// The words after a call but for the refusal.
-fn machine_words(m: &Machine) -> [u32; WORDS - 1] {
+fn machine_words(m: &Machine) -> Words {
     [
         check_word(&m.events),
         m.targeted as u32,
@@ -130,7 +136,7 @@ fn machine_words(m: &Machine) -> [u32; WORDS - 1] {
     ]
 }
 
-fn rust_words(s: player::Summary, events: &[Event]) -> [u32; WORDS - 1] {
+fn rust_words(s: player::Summary, events: &[Event]) -> Words {
     [
         check_word(events),
         s.targeted_ms as u32,
@@ -143,6 +149,18 @@ fn rust_words(s: player::Summary, events: &[Event]) -> [u32; WORDS - 1] {
         s.skipped.into(),
         s.finished.into(),
     ]
+}
+
+/// The same without FTP and its events.
+fn but_for_ftp(words: Words, events: &[Event]) -> Words {
+    let others: Vec<Event> = events.iter().copied().filter(|&(kind, _)| kind != FTP).collect();
+    let [_, targeted, inside, under, over, _, rest @ ..] = words;
+    let [done, steps, skipped, finished] = rest;
+    [check_word(&others), targeted, inside, under, over, 0, done, steps, skipped, finished]
+}
+
+fn ftps(events: &[Event]) -> Vec<u32> {
+    events.iter().filter(|(kind, _)| *kind == FTP).map(|&(_, watts)| watts).collect()
 }
 
 fn step(random: &mut Random) -> Step {
@@ -175,6 +193,25 @@ fn workout(random: &mut Random) -> Workout {
     workout.test = [None, Some(Test::Twenty), Some(Test::Ramp)][random.below(3) as usize];
     assert!(workout.validate().is_ok());
     workout
+}
+
+/// Short tests, some with others between them.
+fn tests(random: &mut Random) -> Workout {
+    let steps: Vec<Step> = (0..1 + random.below(4))
+        .map(|_| {
+            let intensity = if random.below(4) == 0 { Intensity::Recovery } else { Intensity::Test };
+            let secs =
+                if random.below(2) == 0 { [59, 60, 61, 120][random.below(4) as usize] } else { 1 + random.below(130) };
+            Step::new(intensity, Length::Time(secs as u16), Target::Free)
+        })
+        .collect();
+    Workout::new("TESTS", &steps, &[], Some([Test::Twenty, Test::Ramp][random.below(2) as usize]))
+}
+
+/// Two ramp tests that a skip ends.
+fn open_tests() -> Workout {
+    let step = Step::new(Intensity::Test, Length::Open, Target::Free);
+    Workout::new("OPEN TESTS", &[step, step], &[], Some(Test::Ramp))
 }
 
 fn sample(random: &mut Random, base: u32) -> Sample {
@@ -285,6 +322,29 @@ fn list(random: &mut Random, mixed: bool) -> Vec<Call> {
         .collect()
 }
 
+fn power(watts: u32) -> Call {
+    Call::Read(Sample { power_watts: Some(watts as u16), ..Sample::default() })
+}
+
+/// In two open tests: 59 s and a rest of 500 ms, then 1 ms less than a minute. Neither gives an FTP.
+fn rests() -> Vec<Call> {
+    let ride = |cut: [u64; 2]| Call::Ride(cut.map(|ms| (ms, 0)).to_vec(), EXACT);
+    vec![power(300), ride([59_000, 500]), Call::Skip(EXACT), power(200), ride([500, 59_499]), Call::Skip(EXACT)]
+}
+
+/// Rides that come to the end of tests, each under a reading of its own, and some skips.
+fn measured(random: &mut Random) -> Vec<Call> {
+    let turn = |random: &mut Random| {
+        let read = power(60 + random.below(500));
+        let ms = u64::from(if random.below(2) == 0 { 30_000 } else { random.below(130_000) });
+        let count = 1 + random.below(5) as usize;
+        let pieces = parts(random, ms, count).into_iter().map(|ms| (ms, 0)).collect();
+        let skip = (random.below(8) == 0).then_some(Call::Skip(EXACT));
+        [read, Call::Ride(pieces, EXACT)].into_iter().chain(skip).collect::<Vec<_>>()
+    };
+    (0..3 + random.below(8)).flat_map(|_| turn(random)).collect()
+}
+
 /// Touches up to question 15 and past it.
 fn touches() -> Vec<Call> {
     vec![Call::Extend(LONG); 1_442]
@@ -377,8 +437,12 @@ impl<P: Player> Beside<P> {
         }
     }
 
-    fn words(&self) -> [u32; WORDS - 1] {
+    fn words(&self) -> Words {
         rust_words(self.player.summary(), &self.events)
+    }
+
+    fn words_but_for_ftp(&self) -> Words {
+        but_for_ftp(self.words(), &self.events)
     }
 }
 
@@ -388,9 +452,15 @@ struct Tally {
     calls: u64,
     pieces: u64,
     unrefused: u64,
-    /// Calls of the unchanged Rust's player, and of the altered one.
-    rust: [u64; 2],
+    /// Calls of the unchanged Rust's player compared with FTP, those compared without, and calls of the altered one.
+    rust: [u64; 3],
     different: u64,
+    /// Lists with at most one played test step, and with more; those of them with an FTP.
+    test_steps: [u64; 2],
+    measured: [u64; 2],
+    /// Lists with more that gave two different FTPs, and those in which the unchanged Rust gives others.
+    two_ftps: u64,
+    pooled: u64,
     /// Extends of each kind, accepted and refused by 15.
     extends: [[u64; 2]; EXTENDS],
     /// Rides and skips lent exactly what is wanted: before the finish, and none after it.
@@ -402,6 +472,7 @@ struct Tally {
 /// What is wrong with a list, if anything is.
 fn compare(workout: &Workout, profile: TrainingProfile, calls: &[Call], tally: &mut Tally) -> Option<String> {
     let file = codec::encode(workout);
+    let for_ftp = compared_for_ftp(workout);
     let mut machine = Machine::new(workout, profile);
     let fresh = machine_words(&machine);
     let (mut cut, mut whole_words, mut fed) = (Vec::new(), Vec::new(), Vec::new());
@@ -412,7 +483,9 @@ fn compare(workout: &Workout, profile: TrainingProfile, calls: &[Call], tally: &
         }
         cut.extend(words_of(call, places, &profile));
         whole_words.extend(words_of(&whole(call), places, &profile));
-        fed.push((feed(&mut machine, call, places), machine_words(&machine)));
+        let numbers = feed(&mut machine, call, places);
+        let words = machine_words(&machine);
+        fed.push((numbers, words, but_for_ftp(words, &machine.events)));
     }
     let answers = ours(&file, &cut);
     let (mut unchanged, mut altered) = (Beside::<Unchanged>::new(workout), Beside::<Altered>::new(workout));
@@ -421,10 +494,11 @@ fn compare(workout: &Workout, profile: TrainingProfile, calls: &[Call], tally: &
     let (mut at, mut refused) = (0, false);
     tally.lists += 1;
     tally.calls += calls.len() as u64;
+    tally.test_steps[usize::from(!for_ftp)] += 1;
     if answers[0][0] != 0 || answers[0][1..] != fresh {
         return Some(format!("fresh: Rattle {:?}", answers[0]));
     }
-    for (i, (call, (numbers, words))) in calls.iter().zip(fed).enumerate() {
+    for (i, (call, (numbers, words, words_but_for_ftp))) in calls.iter().zip(fed).enumerate() {
         for &number in &numbers {
             at += 1;
             tally.pieces += 1;
@@ -443,13 +517,15 @@ fn compare(workout: &Workout, profile: TrainingProfile, calls: &[Call], tally: &
         }
         if own {
             unchanged.play(call, &numbers, &profile);
-            tally.rust[0] += 1;
-            if unchanged.words() != words {
-                return Some(format!("call {i}: Rust {:?}, machine {words:?}", unchanged.words()));
+            tally.rust[usize::from(!for_ftp)] += 1;
+            let (rust, wanted) =
+                if for_ftp { (unchanged.words(), words) } else { (unchanged.words_but_for_ftp(), words_but_for_ftp) };
+            if rust != wanted {
+                return Some(format!("call {i}: Rust {rust:?}, machine {wanted:?}"));
             }
         }
         altered.play(call, &numbers, &profile);
-        tally.rust[1] += 1;
+        tally.rust[2] += 1;
         if altered.words() != words {
             return Some(format!("call {i}: altered Rust {:?}, machine {words:?}", altered.words()));
         }
@@ -457,6 +533,10 @@ fn compare(workout: &Workout, profile: TrainingProfile, calls: &[Call], tally: &
     for &(kind, _) in &machine.events {
         tally.events[kind as usize] += 1;
     }
+    let given = ftps(&machine.events);
+    tally.measured[usize::from(!for_ftp)] += u64::from(!given.is_empty());
+    tally.two_ftps += u64::from(!for_ftp && given.iter().any(|watts| *watts != given[0]));
+    tally.pooled += u64::from(own && given != ftps(&unchanged.events));
     let uncut: Vec<Call> = calls.iter().map(whole).collect();
     let fits = |call: &Call| !matches!(call, Call::Ride(pieces, _) if pieces[0].0 > u64::from(u32::MAX) || pieces[0].1 > u64::from(u32::MAX));
     if uncut.iter().all(fits) && ours(&file, &whole_words).iter().all(|words| words[0] == 0) {
@@ -484,7 +564,12 @@ fn main() {
     let mut random = Random(seed);
     let mut tally = Tally::default();
     for i in 0..count {
-        let workout = workout(&mut random);
+        let short = i > 25 && i % 6 == 1;
+        let workout = match i {
+            25 => open_tests(),
+            _ if short => tests(&mut random),
+            _ => workout(&mut random),
+        };
         let profile =
             TrainingProfile { ftp_watts: 50 + random.below(551) as u16, lthr_bpm: 1 + random.below(255) as u16 };
         let calls = match i {
@@ -492,6 +577,8 @@ fn main() {
             8 => days(),
             9..17 => arrays(),
             17..25 => amounts(),
+            25 => rests(),
+            _ if short => measured(&mut random),
             _ => list(&mut random, i % 3 == 0),
         };
         if let Some(fault) = compare(&workout, profile, &calls, &mut tally) {
@@ -506,8 +593,16 @@ fn main() {
         }
     }
     println!(
-        "cutting: {} lists, {} calls, {} as cut; machine and Rattle, {} lists different; {} calls of the Rust's player too, {} of the altered one; {} lists with nothing refused uncut",
-        tally.lists, tally.calls, tally.pieces, tally.different, tally.rust[0], tally.rust[1], tally.unrefused
+        "cutting: {} lists, {} calls, {} as cut; machine and Rattle, {} lists different; {} lists with nothing refused uncut",
+        tally.lists, tally.calls, tally.pieces, tally.different, tally.unrefused
+    );
+    println!(
+        "calls of the unchanged Rust's player too: {} compared with FTP, {} without; {} of the altered one, with FTP",
+        tally.rust[0], tally.rust[1], tally.rust[2]
+    );
+    println!(
+        "lists with at most one played test step, compared with the unchanged Rust for FTP too: {} ({} gave an FTP); with more: {} ({} gave one, {} two different ones, {} other ones than the unchanged Rust)",
+        tally.test_steps[0], tally.measured[0], tally.test_steps[1], tally.measured[1], tally.two_ftps, tally.pooled
     );
     println!(
         "extends (with 60 s and 500 m, plain, with other amounts), accepted and refused by 15: {:?}",
@@ -519,9 +614,12 @@ fn main() {
     let missing = [0, 11, 12, 13, 14, 15].iter().any(|&i| tally.refused[i] == 0)
         || tally.events[1..].contains(&0)
         || tally.exact.contains(&0)
-        || tally.extends.as_flattened().contains(&0);
+        || tally.extends.as_flattened().contains(&0)
+        || [tally.rust[0], tally.rust[1], tally.measured[0], tally.measured[1], tally.two_ftps].contains(&0);
     if missing {
-        println!("a refusal, a kind of event, an extend or a call with exact arrays wasn't met");
+        println!(
+            "a refusal, a kind of event, an extend, a call with exact arrays, an FTP of one test step or two of more weren't met"
+        );
     }
     std::process::exit((tally.different > 0 || missing).into());
 }

@@ -117,6 +117,13 @@ fn play(test: u32, steps: &[StepWords], calls: &[Call]) -> Play {
     Play { file: files::without_notes(&workout), calls: calls.to_vec() }
 }
 
+/// The steps, played once, and an open one after them: with one test step it is compared with the unchanged Rust for FTP too.
+fn once(test: u32, steps: &[StepWords], calls: &[Call]) -> Play {
+    let steps = [steps, &[step(WORK_STEP, OPEN, NO_TARGET)]].concat();
+    let workout = WorkoutWords { test, steps, blocks: Vec::new() };
+    Play { file: files::without_notes(&workout), calls: calls.to_vec() }
+}
+
 /// When a ramp gives up: the time under it, its share of the watts, its first stage, absent readings, what comes between.
 fn ramps() -> Vec<Play> {
     let (fail_ms, pct) = (constant("RAMP_FAIL_MS"), constant("RAMP_FAIL_PCT"));
@@ -151,7 +158,8 @@ fn ramps() -> Vec<Play> {
     ));
     plays.push(test(short, &[power(held), ride(5_000)]));
     plays.push(test(short, &[power(held), ride(5_001)]));
-    // The time under a ramp runs on to the next step, and counts in a `Test` step of a ramp test alone.
+    // The time under a ramp runs on to the next step, as no other number of a test does, and counts in a `Test` step of a ramp test
+    // alone.
     let ramp = |intensity, every| step(intensity, OPEN, [RAMP_TARGET, 200, 20, every]);
     plays.push(play(
         RAMP.number,
@@ -164,31 +172,40 @@ fn ramps() -> Vec<Play> {
     plays
 }
 
-/// A `Twenty` test of 10 s: its FTP, its mean, ridden 1 ms short, skipped, touched, over two steps.
+/// A `Twenty` test of 10 s: its FTP, its mean, ridden 1 ms short, skipped, touched; then two of them.
 fn twenties() -> Vec<Play> {
     let timed = step(TEST_STEP, time(10), NO_TARGET);
-    let test = |calls: &[Call]| play(TWENTY.number, &[timed], calls);
+    let test = |calls: &[Call]| once(TWENTY.number, &[timed], calls);
+    let two = |calls: &[Call]| play(TWENTY.number, &[timed], calls);
     let mut plays: Vec<Play> = TWENTY.watts().iter().map(|&watts| test(&[power(watts), ride(10_000)])).collect();
     let hard = power(250);
+    let touched = 9_999 + 1_000 * EXTEND_S;
+    // Half a watt rounds up, on screen too.
+    let even = [power(100), ride(2_500), power(101), ride(2_500)];
     plays.extend([
-        test(&[power(100), ride(5_000), power(101), ride(5_000)]),
+        test(&[even, even].concat()),
         test(&[power(100), ride(5_001), power(101), ride(4_999)]),
         test(&[hard, ride(9_999), ride(1), PRESS]),
         test(&[hard, ride(9_999), PRESS]),
-        test(&[hard, TOUCH, ride(9_999 + 1_000 * EXTEND_S), ride(1)]),
-        test(&[hard, ride(10_000), power(100), ride(10_000)]),
+        test(&[hard, TOUCH, ride(touched), ride(1)]),
         test(&[hard, ride(5_000), ABSENT, ride(5_000)]),
-        play(TWENTY.number, &[step(TEST_STEP, OPEN, NO_TARGET)], &[hard, ride(10_000), PRESS]),
-        play(TWENTY.number, &[step(WORK_STEP, time(10), NO_TARGET), timed], &[hard, ride(10_000), ride(10_000)]),
+        once(TWENTY.number, &[step(TEST_STEP, OPEN, NO_TARGET)], &[hard, ride(10_000), PRESS]),
+        once(TWENTY.number, &[step(WORK_STEP, time(10), NO_TARGET), timed], &[hard, ride(10_000), ride(10_000)]),
+        // Each has the mean of its own step, after a whole one and after a skipped one; 1 ms short it has none.
+        two(&[hard, ride(10_000), power(100), ride(1), ride(9_999)]),
+        two(&[hard, ride(9_999), PRESS, power(100), TOUCH, ride(touched), ride(1)]),
+        two(&[hard, ride(10_000), power(100), ride(9_999), PRESS]),
     ]);
     plays
 }
 
-/// The best minute of a `Ramp` test: its FTP, its mean, its seconds, the greatest of two.
+/// The best minute of a `Ramp` test: its FTP, its mean, its seconds, the greatest of two; then of two tests.
 fn minutes() -> Vec<Play> {
     let minute = constant("MINUTE");
     let ms = 1_000 * minute;
-    let test = |calls: &[Call]| play(RAMP.number, &[step(TEST_STEP, OPEN, NO_TARGET)], calls);
+    let open = step(TEST_STEP, OPEN, NO_TARGET);
+    let test = |calls: &[Call]| once(RAMP.number, &[open], calls);
+    let two = |calls: &[Call]| play(RAMP.number, &[open], calls);
     let mut plays: Vec<Play> = RAMP.watts().iter().map(|&watts| test(&[power(watts), ride(ms), PRESS])).collect();
     let half = 1_000 * (minute / 2);
     let hard = power(300);
@@ -201,6 +218,11 @@ fn minutes() -> Vec<Play> {
         test(&[power(100), ride(1_000), hard, ride(ms - 1_000)]),
         test(&[hard, ride(ms), power(100), ride(ms + 1_000)]),
         test(&[power(100), ride(ms), hard, ride(999), ride(1)]),
+        // Each has the best minute of its own step, a lower one too. In less than a minute there is none, and the first's isn't
+        // given again. Seconds and the rest of one don't count in the next.
+        two(&[hard, ride(ms), PRESS, power(100), ride(ms), PRESS]),
+        two(&[hard, ride(ms), PRESS, ride(ms - 1), PRESS]),
+        two(&[hard, ride(ms - 500), PRESS, power(100), ride(ms - 1), ride(1), PRESS]),
         play(
             RAMP.number,
             &[step(TEST_STEP, time(minute - 1), NO_TARGET), step(WORK_STEP, time(10), NO_TARGET)],

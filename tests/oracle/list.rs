@@ -5,13 +5,13 @@
 //! words are 4 bytes each, little-endian. Two questions come after those of questions.rs.
 //!
 //! On the player: the input is the number of a workout file's bytes, the file, and a list of calls, the answer `played::WORDS`
-//! words on the fresh player and after each call.
+//! words on the fresh player and after each call, by the Rust that played.rs judges the list by.
 //!
 //! On a whole replay: the input is seven words (the number of the workout's bytes, journal, id, the start's lower and upper half,
 //! dated, how many bytes are lent), the workout, and the sheet to the end. The answer is the refusal's number, its act, and the
 //! `OUTPUT` bytes, four to a word, that hold the output: they are all `FILL` before, and the first of them are lent. The answers are
-//! those of the model in replays.rs: the unchanged Rust's where the sheet has no kind 5, else those of the Rust whose extend takes the
-//! amount.
+//! those of the model in replays.rs: the unchanged Rust's where the sheet has no kind 5 and the workout at most one played test step,
+//! else those of the altered one.
 use inputs::calls::{Play, limit_plays, random_play};
 use inputs::{Random, limit_inputs, random_input};
 use played::{Call, Met};
@@ -25,7 +25,7 @@ const FILES: [&str; 3] = ["answers", "players", "replays"];
 const COUNT: usize = 120;
 /// The question on the player, how many random lists, and how many calls of each list.
 const PLAYER: usize = NAMES.len();
-const LISTS: usize = 72;
+const LISTS: usize = 70;
 const CALLS: usize = 11;
 /// The question on a whole replay, and the bytes that hold its output.
 const REPLAY: usize = PLAYER + 1;
@@ -64,6 +64,7 @@ fn players() -> Vec<u8> {
     assert!(list.len() < ROOM, "crate `vectors` has room for so many bytes of a list");
     println!("events {:?}, lengths {:?}, targets {:?}", met.events, met.lengths, met.targets);
     println!("failed ramps {}, refused {:?}", met.failed_ramps, met.refused);
+    println!("{}", met.judged());
     let kinds = [&met.events[..], &met.lengths, &met.targets, &[met.failed_ramps]].concat();
     assert!(answers >= 1_000 && !kinds.contains(&0), "every kind is to be in the list");
     list
@@ -104,7 +105,7 @@ fn replays() -> Vec<u8> {
         entries += 1;
     }
     println!("replays: {entries}, {} bytes; accepted, then refused by 1 to 20: {:?}", list.len(), met.refused);
-    println!("played by the unchanged Rust {}, by the altered one {}", met.sheets[0], met.sheets[1]);
+    println!("{}", met.judged());
     assert!(met.missing().is_empty(), "not in the list of replays: {:?}", met.missing());
     assert!(list.len() < REPLAYS_BYTES, "the list of replays is to stay short");
     list

@@ -1,6 +1,6 @@
-//! Document 01's millisecond machine, written from its paragraph, with question 14 as document 02's c amends it and extend as i does,
-//! and run millisecond by millisecond. Of the Rust it takes what document 01 lets machine and player share: the played steps, the
-//! band and the heart zone.
+//! Document 01's millisecond machine, written from its paragraph, with question 14 as document 02's c amends it, a step's start as d
+//! and extend as i does, and run millisecond by millisecond. Of the Rust it takes what document 01 lets machine and player share:
+//! the played steps, the band and the heart zone.
 use vana::ride::{log::Sample, zones::TrainingProfile};
 use vana::workout::model::{Intensity, Length, Metric, Step, Target, Test, Workout};
 
@@ -231,7 +231,8 @@ impl Machine {
         (50..=600).contains(&watts).then_some(watts)
     }
 
-    /// "Ending"
+    /// "Ending". Document 02, d: "Test sums, seconds' list, rest and best minute now begin empty whenever a step starts." At the finish
+    /// none starts; the best minute is worked out of the list.
     fn end(&mut self, marked: bool) {
         let step = self.steps[self.position];
         if let Some(watts) = self.result(&step, marked) {
@@ -242,6 +243,12 @@ impl Machine {
         self.skipped += u32::from(marked);
         self.time = 0;
         self.extra = 0;
-        self.events.push(if self.finished() { (2, 0) } else { (1, self.position as u32) });
+        if self.finished() {
+            self.events.push((2, 0));
+            return;
+        }
+        (self.sum, self.test_time, self.rest) = (0, 0, 0);
+        self.seconds.clear();
+        self.events.push((1, self.position as u32));
     }
 }

@@ -3,9 +3,10 @@
 //! player (played.rs), words and events. How many places are wanted is worked out here from the request's sentence: "twice the
 //! unended steps plus one", "none when done". Of each update both arrays keep what stood in them past its events, and with a
 //! place fewer in either it is refused 14, unless by a question asked before. Some lists have plain extends, which are the altered
-//! Rust's. Words: how many updates of the other lists with arrays of exactly that length, at least, and the seed. Fails on a
-//! difference, and where a kind of update, a refusal, an update after the finish, one that fills its arrays or one in a list with
-//! a plain extend wasn't met.
+//! Rust's, as FTPs are where more than one test step is played (played.rs). Words: how many updates of the lists without plain
+//! extends with arrays of exactly that length, at least, and the seed. Fails on a difference, and where a kind of update, a
+//! refusal, an update after the finish, one that fills its arrays, one of 193 events, one in a list with a plain extend or an FTP
+//! compared with either Rust wasn't met.
 use inputs::Random;
 use inputs::calls::{Play, limit_plays, random_play};
 use played::{ADD, Call, EXTEND, EXTEND_WITH, Met, READ, RIDE, SKIP, WORDS, answer, bytes_of};
@@ -415,6 +416,7 @@ fn main() {
         "places: {} lists, {} calls, {} updates with arrays of exactly the places wanted, {} with a place fewer; {} lists different",
         tally.lists, tally.calls, tally.exact, tally.fewer, tally.different
     );
+    println!("{}", met.judged());
     println!("updates (ride, add, skip): {:?}, {} of them in lists with a plain extend", tally.kinds, tally.altered);
     println!("updates after the finish, with empty arrays: {}, accepted {}", tally.finished, tally.finished_accepted);
     println!("accepted, then refused by 1 to 20: {:?}", tally.refused);
@@ -423,11 +425,11 @@ fn main() {
     println!("most events of an update: {}, updates with as many events as places: {}", tally.most, tally.full);
     println!("by hand: {cases} calls, {wrong} not as the request has them");
     let asked = [0, 10, 11, 12, 13, 20].iter().any(|&i| tally.refused[i] == 0) || tally.refused_fewer[14] == 0;
-    let reached = [tally.finished_accepted, tally.full, tally.altered];
-    let missing = asked || reached.contains(&0) || tally.kinds.contains(&0);
+    let reached = [tally.finished_accepted, tally.full, tally.altered, met.ftps_by[0], met.ftps_by[1], met.pooled];
+    let missing = asked || reached.contains(&0) || tally.kinds.contains(&0) || tally.most < MOST;
     if missing {
         println!(
-            "a kind of update, a refusal, an update after the finish, with a plain extend or that fills its arrays wasn't met"
+            "a kind of update, a refusal, an FTP, an update after the finish, with a plain extend, of 193 events or that fills its arrays wasn't met"
         );
     }
     std::process::exit((tally.different > 0 || wrong > 0 || missing).into());

@@ -6,7 +6,8 @@
 //! mm and power the lower and the upper half of its value.
 //!
 //! A list whose extends all give 60 s or 500 m is the unchanged Rust's, since these are its own; any other is played by the altered
-//! one (players.rs).
+//! one (players.rs). Of a workout with more than one played test step the unchanged Rust pools what the steps measure, so there the
+//! answer is the altered one's, and the unchanged one is to give the same but for FTP, its events and the test readout of `now`.
 //!
 //! The answer is `WORDS` words on the fresh player, then as many after each call, in groups of 16:
 //!
@@ -20,7 +21,7 @@
 //! An absent FTP, percentage, ramp or reading is 0, else one more than the number. The Rust asks nothing of a player or its
 //! arguments, so document 01's questions 10 to 13 and 15 are asked here; 14 and 20 aren't reached. A file that is refused
 //! leaves a player of the empty workout, which is refused 6 by `new` and doesn't stand.
-use players::{Altered, Amount, DEFAULT, Extra, LONG, Player, Unchanged};
+use players::{Altered, Amount, DEFAULT, Extra, Judge, LONG, Player, Unchanged};
 use questions::{band_words, played_word, step_words};
 use vana::ride::{log::Sample, zones::TrainingProfile};
 use vana::workout::codec;
@@ -71,7 +72,7 @@ impl Call {
     }
 
     /// Not an extend that the unchanged Rust hasn't.
-    fn unchanged(&self) -> bool {
+    pub fn unchanged(&self) -> bool {
         ![EXTEND_WITH, EXTEND].contains(&self.kind) || self.amount() == LONG
     }
 
@@ -106,9 +107,40 @@ pub struct Met {
     pub targets: [u64; 8],
     pub failed_ramps: u64,
     pub finished: u64,
+    /// Lists of a file that is refused.
+    pub unplayed: u64,
+    /// The others by their `Judge`, their calls, and the FTP events in them.
+    pub lists_by: [u64; 3],
+    pub calls_by: [u64; 3],
+    pub ftps_by: [u64; 3],
+    /// Lists that both judge, in which the unchanged Rust gives other FTPs.
+    pub pooled: u64,
 }
 
 impl Met {
+    fn count(&mut self, judge: Judge, answers: &Answers) {
+        self.lists_by[judge as usize] += 1;
+        self.calls_by[judge as usize] += answers.events.len() as u64;
+        self.ftps_by[judge as usize] += answers.ftps().len() as u64;
+    }
+
+    /// Who judged how much.
+    pub fn judged(&self) -> String {
+        let of = |judge: Judge| {
+            let [lists, calls, ftps] =
+                [self.lists_by, self.calls_by, self.ftps_by].map(|counts| counts[judge as usize]);
+            format!("{lists} lists, {calls} calls, {ftps} FTP events")
+        };
+        format!(
+            "judged by the unchanged Rust in all words: {}\njudged by it in all but FTP, its events and readout, by the altered one in all: {}; in {} of the lists the unchanged one gives other FTPs\njudged by the altered Rust alone: {}; with a refused file: {} lists",
+            of(Judge::Unchanged),
+            of(Judge::Both),
+            self.pooled,
+            of(Judge::Altered),
+            self.unplayed
+        )
+    }
+
     /// The things that weren't met by the unchanged Rust, which has no plain extend. Questions 14 and 20 have no place here.
     pub fn missing(&self) -> Vec<String> {
         let of = |name: &str, counts: &[u64]| -> Vec<String> {
@@ -123,6 +155,9 @@ impl Met {
             of("length", &self.lengths),
             of("target", &self.targets),
             of("failed ramp, finish, more than 16 events, place", &rest),
+            of("list judged by the unchanged Rust in all words, in all but FTP, place", &self.lists_by[..2]),
+            of("FTP in such a list, place", &self.ftps_by[..2]),
+            of("list with other FTPs by the unchanged Rust", &[self.pooled]),
         ]
         .concat()
     }
@@ -149,7 +184,7 @@ fn event_words(event: Event) -> (u32, u32) {
     }
 }
 
-fn check_word(events: &[Event]) -> u32 {
+pub fn check_word(events: &[Event]) -> u32 {
     events.iter().fold(NO_EVENTS, |check, &event| {
         let (kind, value) = event_words(event);
         ((u64::from(check) * 31 + u64::from(kind) * 65_536 + u64::from(value) + 1) % 1_000_000_007) as u32
@@ -419,25 +454,70 @@ fn fallen(number: u32) -> Vec<u32> {
     groups.concat()
 }
 
-/// The Rust's answer on a workout file and a list of calls.
-pub fn answer(file: &[u8], calls: &[Call], met: &mut Met) -> Vec<u32> {
-    let Ok(workout) = codec::decode(file) else {
-        return [vec![fallen(6)], vec![fallen(20); calls.len()]].concat().concat();
-    };
-    if calls.iter().all(Call::unchanged) {
-        answer_by::<Unchanged>(&workout, calls, met)
-    } else {
-        answer_by::<Altered>(&workout, calls, met)
+/// What a player gives on a list of calls: the words, and the events of each call.
+pub struct Answers {
+    pub words: Vec<u32>,
+    pub events: Vec<Vec<Event>>,
+}
+
+/// Places of the words that tell something of FTP: how many events there are, their check word, the summary's FTP, and the two of
+/// the test readout.
+const FTP_WORDS: [usize; 5] = [1, 3, 10, 2 * GROUP + 9, 2 * GROUP + 10];
+
+impl Answers {
+    pub fn ftps(&self) -> Vec<u16> {
+        let ftp = |event: &Event| if let Event::Ftp(watts) = *event { Some(watts) } else { None };
+        self.events.iter().flatten().filter_map(ftp).collect()
+    }
+
+    /// The other words, and the other events of each call.
+    fn but_for_ftp(&self) -> (Vec<u32>, Vec<Vec<Event>>) {
+        let words = self.words.iter().enumerate().filter(|(at, _)| !FTP_WORDS.contains(&(at % WORDS)));
+        let others = |events: &Vec<Event>| -> Vec<Event> {
+            events.iter().copied().filter(|event| !matches!(event, Event::Ftp(_))).collect()
+        };
+        (words.map(|(_, &word)| word).collect(), self.events.iter().map(others).collect())
     }
 }
 
-fn answer_by<P: Player>(workout: &Workout, calls: &[Call], met: &mut Met) -> Vec<u32> {
+/// The Rust's answer on a workout file and a list of calls.
+pub fn answer(file: &[u8], calls: &[Call], met: &mut Met) -> Vec<u32> {
+    let Ok(workout) = codec::decode(file) else {
+        met.unplayed += 1;
+        return [vec![fallen(6)], vec![fallen(20); calls.len()]].concat().concat();
+    };
+    let judge = Judge::of(&workout, calls.iter().all(Call::unchanged));
+    let answers = match judge {
+        Judge::Unchanged => answer_by::<Unchanged>(&workout, calls, met),
+        Judge::Both => answer_by_both(&workout, calls, met),
+        Judge::Altered => answer_by::<Altered>(&workout, calls, met),
+    };
+    met.count(judge, &answers);
+    answers.words
+}
+
+/// The altered Rust's, which the unchanged one's differs from in nothing but FTP, its events and readout.
+fn answer_by_both(workout: &Workout, calls: &[Call], met: &mut Met) -> Answers {
+    let answers = answer_by::<Altered>(workout, calls, met);
+    let unchanged = answer_by::<Unchanged>(workout, calls, &mut Met::default());
+    assert!(
+        answers.but_for_ftp() == unchanged.but_for_ftp(),
+        "the unchanged Rust differs in more than FTP, its events and readout: steps {:?}, test {:?}, calls {calls:?}",
+        workout.steps(),
+        workout.test
+    );
+    met.pooled += u64::from(answers.ftps() != unchanged.ftps());
+    answers
+}
+
+pub fn answer_by<P: Player>(workout: &Workout, calls: &[Call], met: &mut Met) -> Answers {
     let mut list = List::<P>::new(workout);
     let first = calls.first().copied().unwrap_or_default();
-    let mut words = list.words(&nothing(0), &first);
+    let mut answers = Answers { words: list.words(&nothing(0), &first), events: Vec::new() };
     for call in calls {
         let given = list.play(call, met);
-        words.extend(list.words(&given, call));
+        answers.words.extend(list.words(&given, call));
+        answers.events.push(given.events);
     }
-    words
+    answers
 }

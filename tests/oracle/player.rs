@@ -1,8 +1,10 @@
 //! The player on both sides: the Rust's, and the Rattle's of crate `compare_player` from a static library, on lists of calls at
 //! limits and on random ones, each extend with the Rust's own amount; and the Rattle's alone, of players that no list of calls
-//! reaches (`fields`). Other amounts are in amounts.rs. Words: how many calls at least, and the seed. Writes how many calls and
-//! words were compared and what was met. Fails where a word differs, where a kind of call, event, length, target or refusal or a
-//! failed ramp wasn't met, and where such a player isn't refused or played as document 01 has it.
+//! reaches (`fields`). Other amounts are in amounts.rs. Workouts with more than one played test step are the altered Rust's for FTP,
+//! its events and readout (played.rs). Words: how many calls at least, and the seed. Writes how many calls and words were compared,
+//! with which Rust, and what was met. Fails where a word differs, where the unchanged Rust differs from the altered one in another
+//! word, where a kind of call, event, length, target or refusal, a failed ramp, or an FTP compared with either Rust wasn't met, and
+//! where such a player isn't refused or played as document 01 has it.
 mod fields;
 mod ours;
 
@@ -55,6 +57,7 @@ fn main() {
         "player: {} lists, {} calls, {} words compared, {} lists different",
         tally.lists, tally.calls, tally.words, tally.different
     );
+    println!("{}", met.judged());
     println!("calls (read, ride, add, skip, extend with 60 s and 500 m): {:?}", &met.calls[..EXTEND as usize]);
     println!("accepted, then refused by 1 to 20: {:?}", met.refused);
     println!("events (countdown, started, finished, FTP): {:?}", met.events);

@@ -1,8 +1,9 @@
-//! The Rust's player by one trait, in two forms: unchanged, whose `extend` knows no amount but its own 60 s and 500 m, and altered,
-//! whose `extend_by` takes any (crate `vana_by`). What they give is told in the types of the unchanged one. Beside them the
-//! amounts of document 02's request i, and question 15, which neither asks.
+//! The Rust's player by one trait, in two forms: unchanged, whose `extend` knows no amount but its own 60 s and 500 m and whose test
+//! numbers run on from step to step, and altered, whose `extend_by` takes any amount and whose test numbers begin empty in each
+//! step (crate `vana_by`). What they give is told in the types of the unchanged one. Beside them the amounts of document 02's
+//! request i, question 15, which neither asks, and which workouts request d still compares with the unchanged one for FTP.
 use vana::ride::{log::Sample, zones::TrainingProfile};
-use vana::workout::model::{Length, Workout};
+use vana::workout::model::{Intensity, Length, Workout};
 pub use vana::workout::player::Player as Unchanged;
 use vana::workout::player::{Compliance, Event, Left, Now, Summary, TestReadout};
 pub use vana_by::workout::player::Player as Altered;
@@ -48,6 +49,40 @@ impl Extra {
             Length::Time(_) => self.secs = after.secs,
             Length::Distance(_) => self.metres = after.metres,
             Length::Open => {}
+        }
+    }
+}
+
+/// The played test steps of a workout. Without a test none is measured.
+pub fn test_steps(workout: &Workout) -> usize {
+    let tests = workout.played().filter(|played| played.step.intensity == Intensity::Test).count();
+    if workout.test.is_some() { tests } else { 0 }
+}
+
+/// "Against the Rust only workouts with at most one played test step are compared for FTP, its events and, in that step, the test
+/// readout of `now`."
+pub fn compared_for_ftp(workout: &Workout) -> bool {
+    test_steps(workout) <= 1
+}
+
+/// Who judges a list of calls or of acts.
+#[derive(Clone, Copy, Debug, PartialEq, Eq)]
+pub enum Judge {
+    /// The unchanged Rust, in everything.
+    Unchanged,
+    /// The altered one, and the unchanged one beside it in everything but FTP, its events and the test readout of `now`.
+    Both,
+    /// The altered one alone: the list has extends that the other hasn't.
+    Altered,
+}
+
+impl Judge {
+    /// By the workout, and whether all extends are the unchanged Rust's own.
+    pub fn of(workout: &Workout, own: bool) -> Self {
+        match (own, compared_for_ftp(workout)) {
+            (true, true) => Judge::Unchanged,
+            (true, false) => Judge::Both,
+            (false, _) => Judge::Altered,
         }
     }
 }

@@ -1,8 +1,9 @@
 //! Whole replays on both sides: the model over the Rust (replays.rs), and the Rattle's call `replay` of crate `console` from a
 //! static library, on replays at limits and on random ones. Words: how many random ones with extends of kind 4 alone, which the
-//! unchanged Rust plays, and the seed; half as many besides mix kinds 4 and 5. Compares the refusal, its act and every byte lent,
-//! with some bytes behind those. Writes how many were compared and what was met. Fails where something differs, where a refusal or
-//! a kind wasn't met, and where fewer than half are accepted.
+//! unchanged Rust has, and the seed; half as many besides mix kinds 4 and 5. Compares the refusal, its act and every byte lent,
+//! with some bytes behind those. Writes how many were compared, with which Rust, and what was met. Fails where something differs,
+//! where the unchanged Rust differs from the altered one in more than FTP, where a refusal, a kind or an FTP of either Rust wasn't
+//! met, and where fewer than half are accepted.
 use inputs::Random;
 use replays::{Answer, Met, Replay, answer, limit_replays, mixed_replay, random_replay};
 
@@ -112,7 +113,7 @@ fn main() {
         tally.different
     );
     println!("accepted, then refused by 1 to 20: {:?}", met.refused);
-    println!("played by the unchanged Rust: {}, by the altered one (kind 5): {}", met.sheets[0], met.sheets[1]);
+    println!("{}", met.judged());
     println!("acts carried out (profile, read, ride, skip, kind 4, kind 5): {:?}", met.acts);
     println!("steps ended by riding (time, distance, open): {:?}", met.ended);
     println!("extends of kind 4 and of kind 5 (not extended, extended): {:?}", met.extended);

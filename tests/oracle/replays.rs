@@ -1,13 +1,14 @@
 //! Document 01's ride sheet and replay, with document 02's kind 5, as a model over the Rust's `decode`, player and `encode`; and
 //! replays to try it on, at limits and random ones from a seed. The Rust has neither a sheet nor the questions 10 to 17 and 19, so
 //! these are asked here, as the paper's sentences have them. A sheet without kind 5 is played by the unchanged Rust, whose `extend`
-//! is kind 4; one with it by the altered Rust (players.rs).
+//! is kind 4; one with it by the altered Rust (players.rs). Of a workout with more than one played test step the record is the
+//! altered Rust's, and the unchanged one's is to be the same but for FTP.
 use inputs::Random;
 use inputs::calls::{Play, random_play};
 use inputs::files::{limit_files, longest, random_file};
 use inputs::limits;
 use played::{Call, EXTEND, EXTEND_WITH, READ, RIDE, SKIP};
-use players::{Altered, Amount, DEFAULT, Extra, LONG, Player, Unchanged};
+use players::{Altered, Amount, DEFAULT, Extra, Judge, LONG, Player, Unchanged};
 use std::sync::LazyLock;
 use vana::ride::{log::Sample, zones::TrainingProfile};
 use vana::workout::codec;
@@ -132,8 +133,11 @@ pub struct Met {
     pub refused: [u64; 21],
     /// Acts that were carried out, by kind.
     pub acts: [u64; 6],
-    /// Sheets played by the unchanged Rust, and by the altered one.
-    pub sheets: [u64; 2],
+    /// Sheets that were played, by their `Judge`, and the records with an FTP that they gave.
+    pub sheets: [u64; 3],
+    pub measured_by: [u64; 3],
+    /// Records that both judge, with another FTP by the unchanged Rust.
+    pub pooled: u64,
     /// Steps that riding ended: timed, distance, open (a failed ramp).
     pub ended: [u64; 3],
     /// Extends that gave `false`, and `true`: of kind 4 and of kind 5.
@@ -147,6 +151,20 @@ pub struct Met {
 }
 
 impl Met {
+    /// Who judged how many.
+    pub fn judged(&self) -> String {
+        let of = |judge: Judge| {
+            format!("{} ({} with an FTP)", self.sheets[judge as usize], self.measured_by[judge as usize])
+        };
+        format!(
+            "played by the unchanged Rust: {}; by it but for FTP, the altered one for all: {}, the unchanged one with another FTP in {}; by the altered one alone (kind 5): {}",
+            of(Judge::Unchanged),
+            of(Judge::Both),
+            self.pooled,
+            of(Judge::Altered)
+        )
+    }
+
     /// The things that weren't met. Questions 14, 18 and 20 have no place in a replay.
     pub fn missing(&self) -> Vec<String> {
         let of = |name: &str, counts: &[u64]| -> Vec<String> {
@@ -157,7 +175,9 @@ impl Met {
         let mut missing: Vec<String> = refused.map(|number| format!("refusal {number}")).collect();
         missing.extend(of("act", &self.acts));
         missing.extend(of("end of a step of length", &self.ended));
-        missing.extend(of("sheets of the unchanged and of the altered Rust", &self.sheets));
+        missing.extend(of("sheet of the unchanged Rust, of both, of the altered one, place", &self.sheets));
+        missing.extend(of("FTP of such a sheet, place", &self.measured_by));
+        missing.extend(of("another FTP by the unchanged Rust", &[self.pooled]));
         missing.extend(of("extend", self.extended.as_flattened()));
         missing.extend(of("finished", &self.finished));
         missing.extend(of("FTP of test", &self.measured));
@@ -318,20 +338,41 @@ fn record(replay: &Replay, met: &mut Met) -> Result<Record, Refused> {
     if replay.room < SIZE {
         return Err((19, NO_ACT));
     }
-    let altered = acts.iter().any(|act| matches!(act, Act::Extend));
-    met.sheets[usize::from(altered)] += 1;
-    let summary =
-        if altered { ridden::<Altered>(&workout, &acts, met)? } else { ridden::<Unchanged>(&workout, &acts, met)? };
-    met.acts_limits[0] += u64::from(acts.len() == 1);
-    met.acts_limits[1] += u64::from(acts.len() == MAX_ACTS);
-    Ok(Record {
+    let record = |summary| Record {
         journal: replay.journal,
         ride_id: replay.id,
         started_utc_ms: (replay.dated != 0).then_some(replay.start),
         name: workout.name,
         test: workout.test,
         summary,
-    })
+    };
+    let judge = Judge::of(&workout, !acts.iter().any(|act| matches!(act, Act::Extend)));
+    met.sheets[judge as usize] += 1;
+    let given = match judge {
+        Judge::Unchanged => ridden::<Unchanged>(&workout, &acts, met).map(record),
+        _ => ridden::<Altered>(&workout, &acts, met).map(record),
+    };
+    if judge == Judge::Both {
+        let unchanged = ridden::<Unchanged>(&workout, &acts, &mut Met::default()).map(record);
+        let same = given.map(|record| but_for_ftp(&record)) == unchanged.map(|record| but_for_ftp(&record));
+        assert!(same, "the unchanged Rust differs in more than FTP: {given:?} and {unchanged:?}");
+        met.pooled += u64::from(given != unchanged);
+    }
+    let given = given?;
+    met.measured_by[judge as usize] += u64::from(given.summary.ftp.is_some());
+    met.acts_limits[0] += u64::from(acts.len() == 1);
+    met.acts_limits[1] += u64::from(acts.len() == MAX_ACTS);
+    Ok(given)
+}
+
+/// The bytes of a record without the FTP's flag, its two bytes and the check word, which are its last.
+fn but_for_ftp(record: &Record) -> Vec<u8> {
+    const FLAGS: usize = 7;
+    const MEASURED: u8 = 4;
+    const FTP: usize = 64;
+    let mut bytes = encode(record);
+    bytes[FLAGS] &= !MEASURED;
+    bytes[..FTP].to_vec()
 }
 
 fn ridden<P: Player>(workout: &Workout, acts: &[Act], met: &mut Met) -> Result<Summary, Refused> {
@@ -634,6 +675,28 @@ fn record_limits() -> Vec<Replay> {
     for extra in [&[][..], &[Act::Ride(10_000, 0)], &[read(None, None, None), Act::Ride(1, 0)]] {
         replays.push(replay_of(ramp(1), with_profile(&[&failing, extra].concat())));
     }
+    // Two tests, each with its own FTP: 20 minutes at 150 and at 250 W, with a recovery between them, the first skipped, the second
+    // made longer by the default; a minute at 300 and at 200 W, and 1 ms less.
+    let pair = |test, secs, between: &[Step]| {
+        let step = Step::new(Intensity::Test, Length::Time(secs), Target::Free);
+        file("TWO TESTS", &[&[step], between, &[step]].concat(), &[], Some(test))
+    };
+    let at = |watts, ms| [read(Some(watts), None, None), Act::Ride(ms, 0)];
+    let easy = Step::new(Intensity::Recovery, Length::Time(300), Target::Free);
+    let twenties = pair(Test::Twenty, 1_200, &[]);
+    for acts in [
+        [at(150, 1_200_000), at(250, 1_200_000)].concat(),
+        [&at(150, 600_000)[..], &[Act::Skip], &at(250, 1_200_000)].concat(),
+        [&at(150, 1_200_000)[..], &[Act::Extend], &at(250, 1_230_000)].concat(),
+    ] {
+        replays.push(replay_of(twenties.clone(), with_profile(&acts)));
+    }
+    let acts = [at(150, 1_200_000), at(90, 300_000), at(250, 1_200_000)].concat();
+    replays.push(replay_of(pair(Test::Twenty, 1_200, &[easy]), with_profile(&acts)));
+    for ms in [60_000, 59_999] {
+        let acts = [&at(300, 60_000)[..], &at(200, ms), &[Act::Skip]].concat();
+        replays.push(replay_of(pair(Test::Ramp, 60, &[]), with_profile(&acts)));
+    }
     // 193 events of one ride.
     let step = Step::new(Intensity::Test, Length::Time(61), Target::Free);
     let many = file("96", &[step], &[Block { first: 0, len: 1, count: 96 }], Some(Test::Ramp));
@@ -867,7 +930,7 @@ fn damage(random: &mut Random, sheet: &mut Vec<u8>) {
 }
 
 /// A random replay: most often of a workout that can be played and a sheet without a fault, else with one fault or more, so that
-/// the order of the questions shows. Its extends are of kind 4, so that it is the unchanged Rust's.
+/// the order of the questions shows. Its extends are of kind 4, so that the unchanged Rust has them.
 pub fn random_replay(random: &mut Random) -> Replay {
     some_replay(random, false)
 }

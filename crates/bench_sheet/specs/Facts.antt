@@ -1,5 +1,5 @@
 -- Examples of document 01's sentences beside its bench sheet, of the Rust where the paper says 'as there', and of document 02's requests:
--- averages, bands, parts, countdowns, seconds left, ramps, extends. The definitions are held against these: one made wrong together with
+-- averages, bands, parts, countdowns, seconds left, ramps, extends, tests. The definitions are held against these: one made wrong together with
 -- the code is refused here.
 use mathlib.Core.Path.{_≡_}
 use mathlib.Core.Bool.{true, false}
@@ -13,6 +13,7 @@ use Rattle.model.specs.declared.Length.the-variants.{Time, Distance, Open}
 use Rattle.model.specs.declared.Intensity.the-variants as intensities
 use Rattle.model.specs.declared.Target.{Target}
 use Rattle.model.specs.declared.Target.the-variants as targets
+use Rattle.model.specs.declared.Test.{Test}
 use Rattle.model.specs.declared.Test.the-variants as tests
 use Rattle.model.specs.declared.Step.{Step}
 use Rattle.model.specs.declared.BandOption.{BandOption}
@@ -32,7 +33,8 @@ use Rattle.state.specs.declared.Player.{Player}
 use Rattle.start.specs.Start.{newOf}
 use Rattle.screen.specs.declared.SecsOption.{SecsOption}
 use Rattle.screen.specs.declared.SecsOption.the-variants as seconds
-use Rattle.player.specs.Calls.{readOf, extendWith, extendOf}
+use Rattle.outcomes.specs.Outcomes.{Called}
+use Rattle.player.specs.Calls.{readOf, skipOf, extendWith, extendOf}
 use Rattle.reports.specs.Reports.{remainingSecs}
 use Rattle.bench_sheet.specs.BenchSheet.{profile, inOrder, step, watts, ridden, twoSteps}
 
@@ -72,11 +74,30 @@ after p ms = ridden p ms .player
 abbrev pub secondsLeft : Player → SecsOption
 secondsLeft p = remainingSecs p .secs
 
--- A `Ramp` test: an open step from 100 W, 20 W more every so many seconds, ridden at so many watts.
+-- Two tests, one after the other, of so many seconds each.
+abbrev pub twoTests : Test → ℕ → Player
+twoTests test secs = newOf (inOrder test (step intensities.Test (Time secs) ∷ step intensities.Test (Time secs) ∷ [])) .player
+
+-- Ridden at so many watts; and a step given up, with 193 places for events.
+abbrev pub riddenAt : ℕ → Player → ℕ → Called
+riddenAt power p ms = ridden (readOf p (watts power) .player) ms
+
+abbrev pub skipped : Player → Called
+skipped p = skipOf p 193 193
+
+-- A player in the second of two tests, the first of them ridden at 53 W or, of a `Ramp` test with a full minute, at 200 W.
+abbrev pub secondTwenty : Player
+secondTwenty = riddenAt 53 (twoTests tests.Twenty 10) 10000 .player
+
+abbrev pub secondRamp : Player
+secondRamp = riddenAt 200 (twoTests tests.Ramp 60) 60000 .player
+
+-- A step of a `Ramp` test: open, from 100 W, 20 W more every so many seconds. The test of it alone, ridden at so many watts.
+abbrev pub up : ℕ → Step
+up every = record { intensity = intensities.Test; length = Open; target = targets.Ramp 100 20 every; note = emptyName }
+
 abbrev pub ramping : ℕ → ℕ → Player
-ramping every power =
-    let up : Step = record { intensity = intensities.Test; length = Open; target = targets.Ramp 100 20 every; note = emptyName } in
-    readOf (newOf (inOrder tests.Ramp (up ∷ [])) .player) (watts power) .player
+ramping every power = readOf (newOf (inOrder tests.Ramp (up every ∷ [])) .player) (watts power) .player
 
 abbrev pub hundredMetres : Player
 hundredMetres = newOf (inOrder tests.None (step intensities.Work (Distance 100) ∷ [])) .player
@@ -139,5 +160,15 @@ pub record Facts : Type 0 where
   -- 0 at the limit is let through; "Open or finished gives `false`, no refusal."
   pub none-more : extendWith 0 0 (extendWith 86400 0 twoSteps .player) .extended ≡ true
   pub not-extended : (extendOf (ramping 10 90) .extended ≡ false) × (extendOf (after threeSteps 30000) .extended ≡ false)
+  -- document 02, d: "Test sums, seconds' list, rest and best minute now begin empty whenever a step starts.", after an end and after a skip
+  pub own-average : (riddenAt 53 (twoTests tests.Twenty 10) 10000 .events ≡ event 3 50 ∷ event 1 1 ∷ []) × (riddenAt 200 secondTwenty 10000 .events ≡ event 3 190 ∷ event 2 0 ∷ [])
+  pub own-after-skip : riddenAt 200 (skipped (riddenAt 53 (twoTests tests.Twenty 10) 9000 .player) .player) 10000 .events ≡ event 3 190 ∷ event 2 0 ∷ []
+  pub own-minute : (riddenAt 200 (twoTests tests.Ramp 60) 60000 .events ≡ event 3 150 ∷ event 1 1 ∷ []) × (riddenAt 100 secondRamp 60000 .events ≡ event 3 75 ∷ event 2 0 ∷ [])
+  pub own-seconds : skipped (riddenAt 200 secondRamp 59000 .player) .events ≡ event 2 0 ∷ []
+  pub own-rest : skipped (riddenAt 200 (skipped (riddenAt 200 (twoTests tests.Ramp 60) 500 .player) .player) 59500 .player) .events ≡ event 2 0 ∷ []
+  -- at the finish no step starts: what was measured stays
+  pub at-finish : after secondTwenty 10000 .core .measured .«test_ms» ≡ 10000
+  -- the time under a ramp isn't in that list and runs on: 5,000 ms of one step and 6,000 of the next
+  pub low-runs-on : ridden (skipped (after (readOf (newOf (inOrder tests.Ramp (up 6 ∷ up 6 ∷ [])) .player) (watts 89) .player) 5000) .player) 6000 .events ≡ event 2 0 ∷ []
   -- player.rs, `ramp_failed`: not before the first stage's end
   pub first-stage : (ridden (ramping 20 89) 19999 .events ≡ []) × (ridden (ramping 20 89) 20000 .events ≡ event 2 0 ∷ [])

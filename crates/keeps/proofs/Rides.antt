@@ -2,7 +2,7 @@
 use mathlib.Core.Path.{_≡_, refl, sym, ap, _∙_, subst}
 use mathlib.Core.Bool.{Bool, true, false, cond}
 use mathlib.Core.List.{List}
-use Prim.Native.Nat.{ℕ, zero, suc, _-_, _*_, _≤_, _<_}
+use Prim.Native.Nat.{ℕ, zero, suc, _-_, _≤_, _<_}
 use native.Mathlib.Omega.{arith}
 use Rattle.zones.specs.declared.TrainingProfile.{TrainingProfile}
 use Rattle.model.specs.declared.Test.{Test}
@@ -14,7 +14,7 @@ use Rattle.readings.specs.declared.Readings.{Readings}
 use Rattle.power.specs.Power.{orZero}
 use Rattle.state.specs.declared.Core.{Core}
 use Rattle.state.specs.declared.Part.{Part}
-use Rattle.state.specs.State.{untilEnd}
+use Rattle.state.specs.State.{SmallEnergy, untilEnd}
 use Rattle.measure.specs.Measure.{Meter, testIn, measuredBy, measuredOf}
 use Rattle.measure.proofs.Laws.{energy-more, ramp-energy}
 use Rattle.step_end.specs.StepEnd.{isOver, nextOf, arrived}
@@ -23,7 +23,7 @@ use Rattle.standing.proofs.Amounts.{Amounts, amounts-within}
 use Rattle.rounds.specs.declared.Ride.{Ride}
 use Rattle.rounds.specs.Rounds.{Riding, riding, Rode, ridingOf, advanced, closedBy, closed, roundOf, stays, joined, isStopped, rounds}
 use Rattle.rounds.specs.Contracted.{Rides}
-use Rattle.rounds.proofs.One.{round-is, closed-measured}
+use Rattle.rounds.proofs.One.{round-is}
 use Rattle.rounds.proofs.Loop.{after-stands}
 
 -- what is still to be ridden may be dropped
@@ -44,11 +44,7 @@ dropped x y w c s =
           total-mm = h .total-mm;
         }
 
--- the energy is of 16-bit readings
-abbrev Energy : Meter → Type 0
-Energy m = m .measured .«test_mj» ≤ 65535 * m .measured .«test_ms»
-
-measured-energy : (test : Test) (w ms low : ℕ) (m : Meter) → w < 65536 → Energy m → Energy (measuredBy test w ms low m)
+measured-energy : (test : Test) (w ms low : ℕ) (m : Meter) → w < 65536 → SmallEnergy (m .measured) → SmallEnergy (measuredBy test w ms low m .measured)
 measured-energy tests.None w ms low m h e = e
 measured-energy tests.Twenty w ms low m h e = energy-more (m .measured .«test_mj») w (m .measured .«test_ms») ms e (omega arith)
 measured-energy tests.Ramp w ms low m h e = ramp-energy w ms low m e
@@ -85,12 +81,10 @@ module _ (w : Workout) (p : TrainingProfile) where
     core-is : after .core ≡ closed w p (ridden .core) .core
     core-is = ap (λ (k : Rode). k .core) (round-is w (start-of ms mm c) 193 193 rides on p m)
 
-    round-energy : after .core .measured .«test_mj» ≤ 65535 * after .core .measured .«test_ms»
+    round-energy : SmallEnergy (ridden .core .measured)
     unfolding advanced measuredOf
     round-energy =
-        subst (λ (k : Core). k .measured .«test_mj» ≤ 65535 * k .measured .«test_ms») (sym core-is)
-        (subst (λ k. k .«test_mj» ≤ 65535 * k .«test_ms») (sym (closed-measured w p (ridden .core)))
-        (measured-energy (testIn (c .on .intensity) (w .test)) (orZero (c .readings .«last_sample» .«power_watts»)) _ _ _ power (s .within .energy)))
+        measured-energy (testIn (c .on .intensity) (w .test)) (orZero (c .readings .«last_sample» .«power_watts»)) _ _ _ power (s .within .energy)
 
     pub round-power : PowerIn (after .core)
     unfolding advanced

@@ -46,13 +46,13 @@ use Rattle.state.specs.declared.Lap.{Lap}
 use Rattle.state.specs.declared.Summary.{Summary}
 use Rattle.state.specs.declared.Measured.{Measured}
 use Rattle.state.specs.declared.Core.{Core}
-use Rattle.state.specs.State.{durationMs, tallied}
+use Rattle.state.specs.State.{durationMs, freshMeasured, tallied}
 use Rattle.measure.specs.Measure as measure
 use Rattle.measure.specs.Measure.{Meter, meter, minuteOf, lowBy, rampTarget, rampPart, measuredBy, measuredOf, twentyFtp, rampFtp, resultBy, resultOf}
 use Rattle.step_end.specs.StepEnd as player
-use Rattle.step_end.specs.StepEnd.{Outcome, dueAt, countdownsTo, countdownsOf, orElse, arrived, afterEvent, nextTo, nextOf}
+use Rattle.step_end.specs.StepEnd.{Outcome, dueAt, countdownsTo, countdownsOf, orElse, measuredAfter, arrived, afterEvent, nextTo, nextOf}
 use Rattle.rounds.specs.Rounds.{Riding, riding, advanced, complianceNow}
-use Rattle.machine.specs.Machine.{Tallies, Sums, Machine, stepOf, stepAt, newest, isTest, testIn, endOf, twenty, rampOf, ramp, result, resultIn, ftpAfter, ftpEvents, nextEvent, ended, turns, readingFor, Judged, isUnder, isIn, isOver, isNothing, between, judge, judgeIf, judgedBy, judgedIn, zeroIfAbsent, lastPower}
+use Rattle.machine.specs.Machine.{Tallies, Sums, Machine, noSums, sumsAt, greatest, stepOf, stepAt, newest, isTest, testIn, endOf, twenty, rampOf, ramp, result, resultIn, ftpAfter, ftpEvents, nextEvent, ended, turns, readingFor, Judged, isUnder, isIn, isOver, isNothing, between, judge, judgeIf, judgedBy, judgedIn, zeroIfAbsent, lastPower}
 use Rattle.machine.specs.Runs.{Totals}
 use Rattle.machine.specs.ThirdDemand.{isRamp, isCompared, compared}
 use Rattle.machine.proofs.Seconds.{MinuteIs, capped}
@@ -375,6 +375,23 @@ module _ (w : Workout) (b : Totals) (k : List Event) (s : Step) (x : Riding) (m 
       ap₂ (λ (test : Test) (l : Length). resultBy test l (x .core .lap) marked (x .core .measured)) (test-now w b k s x m R o) (o .length)
       ∙ result-by (testIn w s) (s .length) (x .core .lap) marked (m .step .extra) (x .core .measured) (x .watts) (m .sums) (R .extra) (R .measured)
 
+-- The sums as a step starts.
+
+empty-is : (t : Measured) (watts : List ℕ) (u : Sums) → MeasuredIs t watts u → MeasuredIs (freshMeasured (t .«ramp_low_ms»)) watts noSums
+empty-is t watts u R =
+    record {
+      sum = refl;
+      time = refl;
+      rest = refl;
+      small = omega arith;
+      minute = record { size = R .minute .size; place = omega arith; full = refl; same = refl; best = unfold greatest in refl };
+    }
+
+start-is : (found : Bool) (played : Played) (t : Measured) (watts : List ℕ) (u : Sums) → MeasuredIs t watts u
+    → MeasuredIs (measuredAfter (record { found = found; played = played }) t) watts (sumsAt (stepOf (record { found = found; played = played })) u)
+start-is true played t watts u R = empty-is t watts u R
+start-is false played t watts u R = R
+
 -- A step's end.
 
 pub before-start : (l : Length) → Lasting l → Before l 0 0
@@ -430,7 +447,7 @@ module _ (w : Workout) (each : (i : ℕ) (s : Step) → stepAt w i ≡ some s �
                 steps-are = R .summary .steps-are;
                 skipped-are = ap (λ (n : ℕ). n + cond marked 1 0) (R .summary .skipped-are);
               };
-          measured = R .measured;
+          measured = start-is (next .found) (next .played) (x .core .measured) (x .watts) (m .sums) (R .measured);
           power = R .power;
           last = R .last;
           events =

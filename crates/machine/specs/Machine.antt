@@ -233,9 +233,11 @@ abbrev pub nextEvent : Option Step → ℕ → Event
 nextEvent none position = finished
 nextEvent (some s) position = started position
 
--- "`ramp_low_ms`, test sums and the minute ring run on across steps", whichever step comes next.
+-- "Test sums, seconds' list, rest and best minute now begin empty whenever a step starts." (document 02, d; they "run on across steps"
+-- in document 01.) At the finish no step starts. The best minute is made of the list.
 abbrev pub sumsAt : Option Step → Sums → Sums
-sumsAt next u = u
+sumsAt none u = u
+sumsAt (some s) u = noSums
 
 -- The step after the one at a position.
 abbrev pub stepAfter : Workout → ℕ → Option Step

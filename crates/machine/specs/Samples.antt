@@ -85,6 +85,10 @@ cutOnce = readWatts 60 ∷ rideIn 500 200 300 ∷ other (extend 60 500) ∷ othe
 abbrev pub cutAgain : List CutCall
 cutAgain = readWatts 60 ∷ rideIn 500 0 500 ∷ other (extend 60 500) ∷ other (extend 30 250) ∷ other (skip 193 193) ∷ []
 
+-- Each test of `pair` at its own watts.
+abbrev pub bothTests : List CutCall
+bothTests = readWatts 53 ∷ rideIn 2000 1500 500 ∷ readWatts 200 ∷ rideIn 1000 500 500 ∷ []
+
 -- Events by document 01's numbers: "kinds (0 countdown, 1 started, 2 finished, 3 FTP) and 16-bit values (seconds, position, 0, watts)".
 abbrev pub event : ℕ → ℕ → Event
 event kind value = record { kind = kind; value = value }
@@ -142,12 +146,17 @@ pub record Samples : Type 0 where
         skipped = 0;
         finished = true;
       }
-  -- "1,200 s test at 53 W: 50; 52: none", of 2 s; sums run on into the next test step
-  pub tested : after (pair tests.Twenty) (readWatts 53 ∷ rideIn 4000 2500 1500 ∷ []) .given .events ≡ event 3 50 ∷ event 1 1 ∷ event 3 50 ∷ event 2 0 ∷ []
+  -- "1,200 s test at 53 W: 50; 52: none", of 2 s; the second test stands on its own step, at 200 W: with the first one's sums it would
+  -- give 97
+  pub tested : after (pair tests.Twenty) bothTests .given .events ≡ event 3 50 ∷ event 1 1 ∷ event 3 190 ∷ event 2 0 ∷ []
   pub below : after (pair tests.Twenty) (readWatts 52 ∷ rideIn 4000 2500 1500 ∷ []) .given .events ≡ event 1 1 ∷ event 2 0 ∷ []
   -- a skipped step is marked, and gives no `Twenty` result
   pub skips : after (pair tests.Twenty) (readWatts 53 ∷ rideIn 1900 1000 900 ∷ other (skip 193 193) ∷ []) .given .events ≡ event 1 1 ∷ []
   pub marked : after (pair tests.Twenty) (readWatts 53 ∷ rideIn 1900 1000 900 ∷ other (skip 193 193) ∷ []) .given .skipped ≡ 1
+  -- a test after a skipped one has its own sums too; at the finish, where no step starts, they stay
+  pub after-skip : after (pair tests.Twenty) (readWatts 53 ∷ rideIn 1900 1000 900 ∷ other (skip 193 193) ∷ readWatts 200 ∷ rideIn 1000 500 500 ∷ []) .given .events
+      ≡ event 1 1 ∷ event 3 190 ∷ event 2 0 ∷ []
+  pub at-finish : after (pair tests.Twenty) bothTests .sums ≡ record { sum = 200000; time = 1000; rest = 0; seconds = [] }
   -- 60 s more, then 30
   pub longer : after single (other (extend 60 500) ∷ other (extend 30 250) ∷ rideIn 3000 1500 1500 ∷ []) .step ≡ record { position = 0; time = 3000; extra = 90 }
   -- 86,370 s of extra hold 30 s more and not 60; at the limit 0 s are let through and 1 s isn't, nor the most that a call can say

@@ -8,6 +8,7 @@ use native.Mathlib.Omega.{arith}
 use lib.ListN.{length, getD, drop, drop-of-length-le, length-set}
 use lib.Seq.{drop-cons}
 use Rattle.common.specs.Lists.{sum}
+use Rattle.state.specs.State.{SmallEnergy}
 use Rattle.measure.specs.Measure.{Minute, Meter, pushed, pushes, rampPart}
 
 -- a mean of 16-bit watts has 16 bits
@@ -58,7 +59,7 @@ pub energy-more : (mj w t ms : ℕ) → mj ≤ 65535 * t → w ≤ 65535 → mj 
 energy-more mj w t ms h k = omega (arith, mul-le-mul-right ms k)
 
 -- the ramp's minutes leave the energy
-pub ramp-energy : (w ms low : ℕ) (m : Meter) → m .measured .«test_mj» ≤ 65535 * m .measured .«test_ms»
-    → rampPart w ms low m .measured .«test_mj» ≤ 65535 * rampPart w ms low m .measured .«test_ms»
+pub ramp-energy : (w ms low : ℕ) (m : Meter) → SmallEnergy (m .measured)
+    → SmallEnergy (rampPart w ms low m .measured)
 unfolding rampPart
 ramp-energy w ms low m h = h

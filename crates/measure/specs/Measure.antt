@@ -25,7 +25,7 @@ use Rattle.state.specs.declared.Ring.{Ring}
 use Rattle.state.specs.declared.Measured.{Measured}
 use Rattle.state.specs.declared.Lap.{Lap}
 use Rattle.state.specs.declared.StepNow.{StepNow}
-use Rattle.state.specs.State.{durationMs}
+use Rattle.state.specs.State.{durationMs, SmallEnergy}
 
 -- The minute: the ring's numbers and its watts.
 
@@ -141,7 +141,7 @@ measuredOf test on r p step-ms ms m =
 pub record MeasureFits (m : Measured) (step-ms ms : ℕ) : Type 0 where
   pub place : m .ring .«minute_at» < 60
   pub rest : m .«minute_rest_ms» < 1000
-  pub energy : m .«test_mj» ≤ 65535 * m .«test_ms»
+  pub energy : SmallEnergy m
   pub time : m .«test_ms» + ms ≤ 604800000
   pub low : m .«ramp_low_ms» + ms ≤ 604800000
   pub step : step-ms ≤ 604800000

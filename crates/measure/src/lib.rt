@@ -2,11 +2,11 @@
 // ramp, and the FTP a test gives.
 ghost use mathlib.Core.Path.{_≡_};
 ghost use mathlib.Core.Bool.{cond};
-ghost use Prim.Native.Nat.{_+_, _*_, _<_, _≤_, min, max};
+ghost use Prim.Native.Nat.{_+_, _<_, _≤_, min, max};
 ghost use lib.Dec.{eqb};
 ghost use lib.ListN.{length};
 ghost use Rattle.common.specs.Lists.{sum};
-ghost use Rattle.state.specs.State.{durationMs};
+ghost use Rattle.state.specs.State.{durationMs, SmallEnergy};
 ghost use Rattle.measure.specs.Measure.{above, bestAfter, minuteOf, pushed, pushes, testIn, rampTarget, lowBy, withTwenty, meter, rampPart, measuredOf, MeasureFits, keptFtp, twentyFtp, twentyBy, rampFtp, resultOf, rampFailed};
 use model::Intensity;
 use model::Length;
@@ -140,8 +140,8 @@ fn low_after(target: u16, average: ReadingOption, ms: u64, low: u64) -> u64
 
 // The twenty minutes' energy and time.
 fn twenty(measured: Measured, watts: u16, ms: u64) -> Measured
-    requires { ⌜ (measured .«test_mj» ≤ 65535 * measured .«test_ms») × (measured .«test_ms» + ms ≤ 604800000) ⌝ }
-    ensures { λ r. ⌜ (r ≡ withTwenty watts ms measured) × (r .«test_mj» ≤ 65535 * r .«test_ms») ⌝ }
+    requires { ⌜ SmallEnergy measured × (measured .«test_ms» + ms ≤ 604800000) ⌝ }
+    ensures { λ r. ⌜ (r ≡ withTwenty watts ms measured) × SmallEnergy r ⌝ }
 {
     let mut q = measured;
     q.test_mj = q.test_mj + (watts as u64) * ms;
@@ -182,7 +182,7 @@ pub fn measure(
     minute: &mut [u16; 60],
 ) -> Measured
     requires { ⌜ MeasureFits measured «step_ms» ms × (length (now minute) ≡ 60) ⌝ }
-    ensures { λ r. ⌜ (meter r (now (minute .exit)) ≡ measuredOf test on readings profile «step_ms» ms (meter measured (now (minute .entry)))) × (r .«test_mj» ≤ 65535 * r .«test_ms») ⌝ }
+    ensures { λ r. ⌜ (meter r (now (minute .exit)) ≡ measuredOf test on readings profile «step_ms» ms (meter measured (now (minute .entry)))) × SmallEnergy r ⌝ }
 {
     let intensity = on.intensity;
     let sample = readings.last_sample;
@@ -216,7 +216,7 @@ fn kept_ftp(watts: u64) -> ReadingOption
 
 // 95 % of the average power, of the whole step.
 fn twenty_ftp(measured: Measured, end_ms: u64) -> ReadingOption
-    requires { ⌜ (measured .«test_mj» ≤ 65535 * measured .«test_ms») × (measured .«test_ms» ≤ 604800000) ⌝ }
+    requires { ⌜ SmallEnergy measured × (measured .«test_ms» ≤ 604800000) ⌝ }
     ensures { λ r. ⌜ r ≡ twentyFtp «end_ms» measured ⌝ }
 {
     let ms = measured.test_ms;
@@ -231,7 +231,7 @@ fn twenty_ftp(measured: Measured, end_ms: u64) -> ReadingOption
 }
 
 fn twenty_result(lasts: Length, lap: Lap, measured: Measured) -> ReadingOption
-    requires { ⌜ (measured .«test_mj» ≤ 65535 * measured .«test_ms») × (measured .«test_ms» ≤ 604800000) ⌝ }
+    requires { ⌜ SmallEnergy measured × (measured .«test_ms» ≤ 604800000) ⌝ }
     ensures { λ r. ⌜ r ≡ twentyBy lasts lap measured ⌝ }
 {
     match lasts {
@@ -254,7 +254,7 @@ fn ramp_result(best: ReadingOption) -> ReadingOption
 // The FTP the step that is ending measured, if it is a test's and counts: the whole twenty minutes, or a ramp with at least one
 // full minute.
 pub fn result(measured: Measured, test: Test, on: StepNow, lap: Lap, skipped: bool) -> ReadingOption
-    requires { ⌜ (measured .«test_mj» ≤ 65535 * measured .«test_ms») × (measured .«test_ms» ≤ 604800000) ⌝ }
+    requires { ⌜ SmallEnergy measured × (measured .«test_ms» ≤ 604800000) ⌝ }
     ensures { λ r. ⌜ r ≡ resultOf test on lap skipped measured ⌝ }
 {
     let intensity = on.intensity;

@@ -26,8 +26,9 @@ use Rattle.readings.specs.declared.ComplianceOption.the-variants.{NoBand, NoRea
 use Rattle.readings.specs.declared.ComplianceOption.the-variants as how
 use Rattle.state.specs.declared.Summary.{Summary}
 use Rattle.state.specs.declared.StepNow.{StepNow}
+use Rattle.state.specs.declared.Measured.{Measured}
 use Rattle.state.specs.declared.Core.{Core}
-use Rattle.state.specs.State.{tallied, stepNow, freshLap}
+use Rattle.state.specs.State.{tallied, stepNow, freshLap, SmallEnergy}
 use Rattle.measure.specs.Measure.{Minute, Meter, meter, minuteOf, pushed, pushes, rampPart, measuredBy, measuredOf, lowBy, rampTarget, testIn}
 use Rattle.measure.proofs.Laws.{place-next, places-kept}
 use Rattle.model.specs.Target.{rampOption}
@@ -128,7 +129,7 @@ module _ (t : Test) (p : TrainingProfile) (ms mm : ℕ) (s : Riding) (x y : ℕ)
       (low-within (rampTarget (rampOption (s .core .on .target) p) ((s .core .lap .«step_ms» + ms) / 1000)) (averageOf (s .core .readings .power)) ms (s .core .measured .«ramp_low_ms»))
 
   -- what is known of the core after a part of it
-  pub within-advanced : ms ≤ x → mm ≤ y → meterAfter t p ms s .measured .«test_mj» ≤ 65535 * meterAfter t p ms s .measured .«test_ms»
+  pub within-advanced : ms ≤ x → mm ≤ y → SmallEnergy (meterAfter t p ms s .measured)
       → Within (x - ms) (y - mm) w (advanced t p ms mm s .core)
   unfolding advanced onPlace
   within-advanced hx hy energy =
@@ -227,12 +228,12 @@ module _ (x y : ℕ) (w : Workout) (skipped : Bool) (c : Core) (h : Within x y w
               targeted = h .targeted;
               step-ms = omega (arith, h .step-ms);
               step-mm = omega (arith, h .step-mm);
-              energy = h .energy;
-              test-ms = h .test-ms;
-              low = h .low;
-              rest = h .rest;
-              place = h .place;
-              long = h .long;
+              energy = cond-by SmallEnergy (found .found) (λ _. omega arith) (λ _. h .energy);
+              test-ms = cond-by (λ (m : Measured). m .«test_ms» + x ≤ c .«total_ms» .0) (found .found) (λ _. omega (arith, h .test-ms)) (λ _. h .test-ms);
+              low = cond-by (λ (m : Measured). m .«ramp_low_ms» + x ≤ c .«total_ms» .0) (found .found) (λ _. h .low) (λ _. h .low);
+              rest = cond-by (λ (m : Measured). m .«minute_rest_ms» < 1000) (found .found) (λ _. omega arith) (λ _. h .rest);
+              place = cond-by (λ (m : Measured). m .ring .«minute_at» < 60) (found .found) (λ _. omega arith) (λ _. h .place);
+              long = cond-by (λ (m : Measured). m .ring .«minute_len» ≤ 60) (found .found) (λ _. omega arith) (λ _. h .long);
               next = h .next;
               cadence = h .cadence;
               total-ms = h .total-ms;

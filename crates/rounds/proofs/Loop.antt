@@ -14,9 +14,8 @@ use Rattle.order.specs.Order.{playedLen, playedOf}
 use Rattle.events.specs.Events.{Event, Wrote, ftp}
 use Rattle.events.proofs.Laws.{wrote-none, wrote-then, one-at-most}
 use Rattle.power.specs.Power.{isSome, orZero}
-use Rattle.state.specs.declared.Measured.{Measured}
 use Rattle.state.specs.declared.Core.{Core}
-use Rattle.state.specs.State.{untilEnd}
+use Rattle.state.specs.State.{SmallEnergy, untilEnd}
 use Rattle.measure.specs.Measure.{resultOf}
 use Rattle.step_end.specs.StepEnd.{Outcome, isOver, nextOf, arrived, ftpEvents, afterEvent}
 use Rattle.standing.specs.Facts.{Stands}
@@ -25,7 +24,7 @@ use Rattle.rounds.specs.Rounds.{Riding, riding, Rode, ridingOf, advanced
 use Rattle.rounds.specs.Contracted.{Rides, Round, Ridden, partOf}
 use Rattle.rounds.proofs.Parts.{reached-over, over-silent}
 use Rattle.rounds.proofs.Keeps.{meter-keeps, closed-stands}
-use Rattle.rounds.proofs.One.{going, unended, the-part, extra-s, extra-m, ridden-within, round-is, closed-measured}
+use Rattle.rounds.proofs.One.{going, unended, the-part, extra-s, extra-m, ridden-within, round-is}
 
 -- a step's end gives at most two events
 pub next-few : (w : Workout) (skipped : Bool) (c : Core) → length (nextOf w skipped c .events) ≤ 2
@@ -79,14 +78,13 @@ module _ (w : Workout) (s : Ride) (ks vs : ℕ) (r : Rides w s ks vs) (on : isSt
   after-core = ap (λ (k : Rode). k .core) (round-is w s ks vs r on p m)
 
   -- a round keeps standing
-  pub after-stands : after .core .measured .«test_mj» ≤ 65535 * after .core .measured .«test_ms»
+  pub after-stands : SmallEnergy (ridden .core .measured)
       → Stands (s .ms .0 - partOf s .ms .0) (s .mm .0 - partOf s .mm .0) w (after .core)
   unfolding advanced
   after-stands e =
-      let same : after .core .measured ≡ ridden .core .measured = ap (λ (k : Core). k .measured) after-core ∙ closed-measured w p (ridden .core) in
       subst (λ (k : Core). Stands (s .ms .0 - partOf s .ms .0) (s .mm .0 - partOf s .mm .0) w k) (sym after-core)
       (closed-stands (s .ms .0 - partOf s .ms .0) (s .mm .0 - partOf s .mm .0) w p (ridden .core)
-      (ridden-within w s ks vs r on p m (subst (λ (k : Measured). k .«test_mj» ≤ 65535 * k .«test_ms») same e)) still es em)
+      (ridden-within w s ks vs r on p m e) still es em)
     where
       still : ridden .core .done ≡ false
       still = going w s ks vs r on
@@ -106,7 +104,7 @@ module _ (w : Workout) (s : Ride) (ks vs : ℕ) (r : Rides w s ks vs) (on : isSt
             subst (λ (k : Core). Stands (q .ms .0) (q .mm .0) w k) (sym core-is)
             (subst (λ (n : ℕ). Stands n (q .mm .0) w (after .core)) (sym (o .ms))
             (subst (λ (n : ℕ). Stands (s .ms .0 - partOf s .ms .0) n w (after .core)) (sym (o .mm))
-            (after-stands (subst (λ (k : Core). k .measured .«test_mj» ≤ 65535 * k .measured .«test_ms») core-is (o .energy)))));
+            (after-stands (o .energy))));
         ms = omega (arith, o .ms, r .ms);
         mm = omega (arith, o .mm, r .mm);
         parts = omega (arith, o .parts, one-part);

@@ -2,7 +2,7 @@
 use mathlib.Core.Path.{_≡_, refl, sym, ap, subst, _∙_}
 use mathlib.Core.Bool.{Bool, true, false, cond, _&&_, _||_}
 use mathlib.Core.List.{List}
-use Prim.Native.Nat.{ℕ, _-_, _*_, _≤_, _<_}
+use Prim.Native.Nat.{ℕ, _-_, _≤_, _<_}
 use native.Mathlib.Omega.{arith}
 use lib.Dec.{leb, eqb}
 use borrow.Author.Tests.{eqb-false, ne-eqb}
@@ -13,11 +13,12 @@ use Rattle.model.specs.declared.Workout.{Workout}
 use Rattle.order.specs.Order.{playedLen}
 use Rattle.state.specs.declared.Core.{Core}
 use Rattle.state.specs.declared.Part.{Part}
-use Rattle.step_end.specs.StepEnd.{NextFits, isOver, nextOf, arrived}
+use Rattle.state.specs.State.{SmallEnergy}
+use Rattle.step_end.specs.StepEnd.{NextFits}
 use Rattle.standing.specs.Standing.{belowEnd, lapOk}
 use Rattle.standing.specs.Facts.{Within}
 use Rattle.rounds.specs.declared.Ride.{Ride}
-use Rattle.rounds.specs.Rounds.{Riding, riding, advanced, closed, closedBy, accounted, stays, roundOf, isStopped}
+use Rattle.rounds.specs.Rounds.{Riding, riding, advanced, accounted, stays, roundOf, isStopped}
 use Rattle.rounds.specs.Contracted.{AdvanceFits, Rides, partOf}
 use Rattle.rounds.proofs.Parts.{PartIs, part-is}
 use Rattle.rounds.proofs.Keeps.{within-advanced, not-done-below}
@@ -102,7 +103,7 @@ module _ (w : Workout) (s : Ride) (ks vs : ℕ) (r : Rides w s ks vs) (on : isSt
   ridden p m = advanced (w .test) p (partOf s .ms .0) (partOf s .mm .0) (riding (s .core) m)
 
   pub ridden-within : (p : TrainingProfile) (m : List ℕ)
-      → ridden p m .core .measured .«test_mj» ≤ 65535 * ridden p m .core .measured .«test_ms»
+      → SmallEnergy (ridden p m .core .measured)
       → Within (s .ms .0 - partOf s .ms .0) (s .mm .0 - partOf s .mm .0) w (ridden p m .core)
   unfolding advanced
   ridden-within p m e =
@@ -118,26 +119,17 @@ module _ (w : Workout) (s : Ride) (ks vs : ℕ) (r : Rides w s ks vs) (on : isSt
       positive : (n : ℕ) → 0 < n → n ≡ 0 → ⊥
       positive n h e = omega arith
 
--- a step's end leaves the test's numbers
-pub closed-measured : (w : Workout) (p : TrainingProfile) (c : Core) → closed w p c .core .measured ≡ c .measured
-unfolding closed nextOf arrived
-closed-measured w p c = at (isOver p c)
-  where
-    at : (b : Bool) → closedBy b w c .core .measured ≡ c .measured
-    at true = refl
-    at false = refl
-
 module _ (w : Workout) (s : Ride) (ks vs : ℕ) (r : Rides w s ks vs) (on : isStopped (s .core .done) (s .ms .0) ≡ false) (p : TrainingProfile) (m : List ℕ)
     (t : Part) (q : Riding) (et : t ≡ partOf s) (eq : q ≡ advanced (w .test) p (t .ms .0) (t .mm .0) (riding (s .core) m)) where
   -- the code's part is the definition's
   pub ridden-is : q ≡ advanced (w .test) p (partOf s .ms .0) (partOf s .mm .0) (riding (s .core) m)
   ridden-is = eq ∙ ap (λ (t : Part). advanced (w .test) p (t .ms .0) (t .mm .0) (riding (s .core) m)) et
 
-  pub after-part : q .core .measured .«test_mj» ≤ 65535 * q .core .measured .«test_ms»
+  pub after-part : SmallEnergy (q .core .measured)
       → Within (s .ms .0 - partOf s .ms .0) (s .mm .0 - partOf s .mm .0) w (q .core)
   after-part e =
       subst (λ (q : Riding). Within (s .ms .0 - partOf s .ms .0) (s .mm .0 - partOf s .mm .0) w (q .core)) (sym ridden-is)
-      (ridden-within w s ks vs r on p m (subst (λ (q : Riding). q .core .measured .«test_mj» ≤ 65535 * q .core .measured .«test_ms») ridden-is e))
+      (ridden-within w s ks vs r on p m (subst (λ (q : Riding). SmallEnergy (q .core .measured)) ridden-is e))
 
   pub round-made : roundOf w p (partOf s) (riding (s .core) m) ≡ accounted w p (s .core .lap .«step_ms») q
   round-made = round-is w s ks vs r on p m ∙ ap (accounted w p (s .core .lap .«step_ms»)) (sym ridden-is)

@@ -2,7 +2,7 @@
 use mathlib.Core.Path.{_≡_, refl, sym, ap, subst, _∙_}
 use mathlib.Core.Bool.{Bool, true, false}
 use mathlib.Core.List.{List, []}
-use Prim.Native.Nat.{ℕ, _+_, _-_, _*_, _≤_, _<_}
+use Prim.Native.Nat.{ℕ, _+_, _-_, _≤_, _<_}
 use native.Mathlib.Omega.{arith}
 use lib.ListN.{length}
 use Rattle.zones.specs.declared.TrainingProfile.{TrainingProfile}
@@ -11,14 +11,14 @@ use Rattle.events.specs.Events.{Wrote}
 use Rattle.events.proofs.Laws.{wrote-none, wrote-then}
 use Rattle.state.specs.declared.Ms.{Ms}
 use Rattle.state.specs.declared.Mm.{Mm}
-use Rattle.state.specs.declared.Measured.{Measured}
 use Rattle.state.specs.declared.Core.{Core}
+use Rattle.state.specs.State.{SmallEnergy}
 use Rattle.step_end.specs.StepEnd.{Outcome, NextFits, isOver, nextOf}
 use Rattle.rounds.specs.declared.Ride.{Ride}
-use Rattle.rounds.specs.Rounds.{Rode, riding, ridingOf, closed, closedBy, accounted, roundOf, isStopped}
+use Rattle.rounds.specs.Rounds.{Riding, Rode, riding, ridingOf, closed, closedBy, accounted, roundOf, isStopped}
 use Rattle.rounds.specs.Contracted.{Rides, TurnFits, Turned, Ended, Round, partOf}
 use Rattle.rounds.proofs.Parts.{over-silent}
-use Rattle.rounds.proofs.One.{advance-fits, unended, the-part, next-fits, after-part, round-made, closed-measured}
+use Rattle.rounds.proofs.One.{advance-fits, unended, the-part, next-fits, after-part, round-made}
 use Rattle.rounds.proofs.Loop.{closed-over}
 
 closed-left : (w : Workout) (p : TrainingProfile) (c : Core) → isOver p c ≡ false → closed w p c ≡ record { core = c; events = [] }
@@ -68,8 +68,7 @@ module _ (w : Workout) (s : Ride) (kl vl : List ℕ) (r : Rides w s (length kl) 
               subst (λ (k : Rode). Wrote kl vl (s .count) kl'' vl'' (q .count) (k .events)) (sym made)
               (wrote-then (omega (arith, left, r .kinds on)) (omega (arith, left, r .values on)) (o .wrote) (e .wrote));
           energy =
-              subst (λ (k : Measured). k .«test_mj» ≤ 65535 * k .«test_ms») (sym (ap (λ (k : Core). k .measured) (e .core) ∙ closed-measured w p (t .core)))
-              (o .energy);
+              subst (λ (k : Riding). SmallEnergy (k .core .measured)) (o .riding-is) (o .energy);
         }
 
     pub round-ended : {kl'' vl'' : List ℕ} (q : Ride) → isOver p (t .core) ≡ true → Ended kl' vl' kl'' vl'' t q (nextOf w false (t .core))

@@ -11,7 +11,7 @@ use Rattle.order.specs.Order.{playedLen}
 use Rattle.events.specs.Events.{Wrote}
 use Rattle.state.specs.declared.Core.{Core}
 use Rattle.state.specs.declared.Part.{Part}
-use Rattle.state.specs.State.{TallyFits, untilEnd}
+use Rattle.state.specs.State.{TallyFits, SmallEnergy, untilEnd}
 use Rattle.measure.specs.Measure.{MeasureFits}
 use Rattle.step_end.specs.StepEnd.{Outcome, countdownsOf}
 use Rattle.standing.specs.Facts.{Stands}
@@ -56,7 +56,7 @@ pub record Turned (test : Test) (p : TrainingProfile) (m m' ks vs ks' vs' : List
   pub mm : r .mm .0 ≡ s .mm .0 - partOf s .mm .0
   pub parts : r .parts ≡ s .parts + 1
   pub wrote : Wrote ks vs (s .count) ks' vs' (r .count) (countdownsOf (r .core .on .length) (r .core .lap) (s .core .lap .«step_ms»))
-  pub energy : r .core .measured .«test_mj» ≤ 65535 * r .core .measured .«test_ms»
+  pub energy : SmallEnergy (r .core .measured)
 
 -- The ride after a step's end.
 pub record Ended (ks vs ks' vs' : List ℕ) (s r : Ride) (o : Outcome) : Type 0 where
@@ -66,14 +66,14 @@ pub record Ended (ks vs ks' vs' : List ℕ) (s r : Ride) (o : Outcome) : Type 0 
   pub parts : r .parts ≡ s .parts
   pub wrote : Wrote ks vs (s .count) ks' vs' (r .count) (o .events)
 
--- The ride after one round of it.
+-- The ride after one round of it. The bound is of the part, before its step's end.
 pub record Round (w : Workout) (p : TrainingProfile) (m m' ks vs ks' vs' : List ℕ) (s r : Ride) : Type 0 where
   pub riding-is : riding (r .core) m' ≡ ridingOf (roundOf w p (partOf s) (riding (s .core) m))
   pub ms : r .ms .0 ≡ s .ms .0 - partOf s .ms .0
   pub mm : r .mm .0 ≡ s .mm .0 - partOf s .mm .0
   pub parts : r .parts ≡ s .parts + roundOf w p (partOf s) (riding (s .core) m) .parts
   pub wrote : Wrote ks vs (s .count) ks' vs' (r .count) (roundOf w p (partOf s) (riding (s .core) m) .events)
-  pub energy : r .core .measured .«test_mj» ≤ 65535 * r .core .measured .«test_ms»
+  pub energy : SmallEnergy (advanced (w .test) p (partOf s .ms .0) (partOf s .mm .0) (riding (s .core) m) .core .measured)
 
 -- The ride after the loop. The minute still has its 60 places.
 pub record Ridden (w : Workout) (p : TrainingProfile) (m m' ks vs ks' vs' : List ℕ) (s r : Ride) : Type 0 where

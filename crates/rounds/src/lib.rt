@@ -1,8 +1,9 @@
 // player.rs's `account` and the loop of `add`: an update's parts, each of which ends a step or uses the update up.
 ghost use mathlib.Core.Path.{_≡_};
 ghost use mathlib.Core.Bool.{false};
-ghost use Prim.Native.Nat.{_+_, _*_, _≤_, _<_};
+ghost use Prim.Native.Nat.{_+_, _≤_, _<_};
 ghost use lib.ListN.{length};
+ghost use Rattle.state.specs.State.{SmallEnergy};
 ghost use Rattle.step_end.specs.StepEnd.{NextFits, nextOf};
 ghost use Rattle.rounds.specs.Rounds.{riding, advanced, isStopped};
 ghost use Rattle.rounds.specs.Contracted.{AdvanceFits, Rides, TurnFits, Turned, Ended, Round, Ridden};
@@ -37,7 +38,7 @@ fn advance(
     minute: &mut [u16; 60],
 ) -> Core
     requires { ⌜ AdvanceFits core ms mm × (length (now minute) ≡ 60) ⌝ }
-    ensures { λ r. ⌜ (riding r (now (minute .exit)) ≡ advanced test profile ms mm (riding core (now (minute .entry)))) × (r .measured .«test_mj» ≤ 65535 * r .measured .«test_ms») ⌝ }
+    ensures { λ r. ⌜ (riding r (now (minute .exit)) ≡ advanced test profile ms mm (riding core (now (minute .entry)))) × SmallEnergy (r .measured) ⌝ }
 {
     let on = core.on;
     let target = on.target;

@@ -27,7 +27,7 @@ use Rattle.state.specs.declared.Lap.{Lap}
 use Rattle.state.specs.declared.Measured.{Measured}
 use Rattle.state.specs.declared.Core.{Core}
 use Rattle.state.specs.declared.Player.{Player}
-use Rattle.state.specs.State.{durationMs, distanceM}
+use Rattle.state.specs.State.{durationMs, distanceM, SmallEnergy}
 use Rattle.measure.specs.Measure.{testIn}
 use Rattle.screen.specs.declared.SecsOption.{SecsOption}
 use Rattle.screen.specs.declared.SecsOption.the-variants as seconds
@@ -160,5 +160,5 @@ pub record ReportFits (c : Core) : Type 0 where
   pub step-ms : c .lap .«step_ms» ≤ 604800000
   pub step-mm : c .lap .«step_mm» ≤ 7000000000
   pub extra-s : c .lap .«extra_s» ≤ 86400
-  pub test-mj : c .measured .«test_mj» ≤ 65535 * c .measured .«test_ms»
+  pub test-mj : SmallEnergy (c .measured)
   pub test-ms : c .measured .«test_ms» ≤ 604800000

@@ -1,8 +1,8 @@
 // player.rs: what a screen shows of a player: what remains of the workout, and `Now`. A standing player is supposed; the calls ask.
 ghost use mathlib.Core.Path.{_≡_};
-ghost use Prim.Native.Nat.{_+_, _-_, _*_, _/_, _≤_, min, max};
+ghost use Prim.Native.Nat.{_+_, _-_, _/_, _≤_, min, max};
 ghost use Rattle.model.specs.declared.Length.the-variants.{Time, Distance};
-ghost use Rattle.state.specs.State.{durationMs};
+ghost use Rattle.state.specs.State.{durationMs, SmallEnergy};
 ghost use Rattle.screen.specs.Screen.{secondsUp, remainingIn, remainingOf, isDistance, shownOf, rampWatts, shownReading, readoutBy, minuteReadout, averageReadout, playedNow, shownBand, shownRamp, shownNext, shownReadout, nowIn, ReportFits};
 use common::least;
 use measure::test_in;
@@ -219,7 +219,7 @@ fn reading_now(band: BandOption, readings: Readings) -> ReadingOption
 }
 
 fn average_readout(measured: Measured) -> TestReadout
-    requires { ⌜ (measured .«test_mj» ≤ 65535 * measured .«test_ms») × (measured .«test_ms» ≤ 604800000) ⌝ }
+    requires { ⌜ SmallEnergy measured × (measured .«test_ms» ≤ 604800000) ⌝ }
     ensures { λ r. ⌜ r ≡ averageReadout measured ⌝ }
 {
     let ms = measured.test_ms;
@@ -239,7 +239,7 @@ fn minute_readout(best: ReadingOption) -> TestReadout
 }
 
 fn readout(test: Test, measured: Measured) -> TestReadout
-    requires { ⌜ (measured .«test_mj» ≤ 65535 * measured .«test_ms») × (measured .«test_ms» ≤ 604800000) ⌝ }
+    requires { ⌜ SmallEnergy measured × (measured .«test_ms» ≤ 604800000) ⌝ }
     ensures { λ r. ⌜ r ≡ readoutBy test measured ⌝ }
 {
     match test {

@@ -1,14 +1,14 @@
 -- Standing as facts, of a core whose update is under way: what functions below the calls suppose.
 use mathlib.Core.Path.{_≡_}
 use mathlib.Core.Bool.{true}
-use Prim.Native.Nat.{ℕ, _+_, _*_, _≤_, _<_}
+use Prim.Native.Nat.{ℕ, _+_, _≤_, _<_}
 use lib.Dec.{leb}
 use Rattle.refusal.specs.declared.Answer.the-variants.{Accepted}
 use Rattle.model.specs.declared.Workout.{Workout}
 use Rattle.order.specs.Order.{playedOf, playedLen}
 use Rattle.validation.specs.Sound.{workoutAnswer}
 use Rattle.state.specs.declared.Core.{Core}
-use Rattle.state.specs.State.{stepNow}
+use Rattle.state.specs.State.{SmallEnergy, stepNow}
 use Rattle.standing.specs.Standing.{sameStep, onPlace, lapOk, cadenceIn}
 
 -- What a core whose update is under way is known to keep: all of standing, but for the last x ms and y mm of its totals, which are
@@ -27,7 +27,7 @@ pub record Within (x y : ℕ) (w : Workout) (c : Core) : Type 0 where
   pub targeted : c .summary .«targeted_ms» + x ≤ c .«total_ms» .0
   pub step-ms : c .lap .«step_ms» + x ≤ c .«total_ms» .0
   pub step-mm : c .lap .«step_mm» + y ≤ c .«total_mm» .0
-  pub energy : c .measured .«test_mj» ≤ 65535 * c .measured .«test_ms»
+  pub energy : SmallEnergy (c .measured)
   pub test-ms : c .measured .«test_ms» + x ≤ c .«total_ms» .0
   pub low : c .measured .«ramp_low_ms» + x ≤ c .«total_ms» .0
   pub rest : c .measured .«minute_rest_ms» < 1000

@@ -11,11 +11,10 @@ use Rattle.order.specs.Order.{playedOf, playedLen}
 use Rattle.validation.specs.Sound.{workoutAnswer}
 use Rattle.power.specs.declared.ReadingOption.the-variants.{None}
 use Rattle.readings.specs.Readings.{noReadings}
-use Rattle.state.specs.declared.Measured.{Measured}
 use Rattle.state.specs.declared.Summary.{Summary}
 use Rattle.state.specs.declared.Core.{Core}
 use Rattle.state.specs.declared.Player.{Player}
-use Rattle.state.specs.State.{freshLap, stepNow}
+use Rattle.state.specs.State.{freshLap, freshMeasured, stepNow}
 use Rattle.start.specs.declared.NewPlayer.{NewPlayer}
 
 -- Nothing ridden, the first step on.
@@ -34,16 +33,6 @@ noSummary steps =
       finished = false;
     }
 
-abbrev pub noMeasured : Measured
-noMeasured =
-    record {
-      «test_mj» = 0;
-      «test_ms» = 0;
-      «minute_rest_ms» = 0;
-      «ramp_low_ms» = 0;
-      ring = record { «best_minute» = None; «minute_at» = 0; «minute_len» = 0 };
-    }
-
 abbrev pub freshCore : ℕ → Played → Core
 freshCore steps first =
     record {
@@ -52,7 +41,7 @@ freshCore steps first =
       «total_ms» = record { 0 = 0 };
       «total_mm» = record { 0 = 0 };
       lap = freshLap;
-      measured = noMeasured;
+      measured = freshMeasured 0;
       summary = noSummary steps;
       on = stepNow first;
       readings = noReadings;

@@ -13,12 +13,11 @@ use readings::no_readings;
 use refusal::Answer;
 use state::Core;
 use state::Lap;
-use state::Measured;
 use state::Mm;
 use state::Ms;
 use state::Player;
-use state::Ring;
 use state::Summary;
+use state::fresh_measured;
 use state::step_now;
 use validation::check;
 
@@ -57,17 +56,7 @@ fn fresh_core(steps: u16, first: Played) -> Core
             extra_s: 0,
             extra_m: 0,
         },
-        measured: Measured {
-            test_mj: 0,
-            test_ms: 0,
-            minute_rest_ms: 0,
-            ramp_low_ms: 0,
-            ring: Ring {
-                best_minute: ReadingOption::None,
-                minute_at: 0,
-                minute_len: 0,
-            },
-        },
+        measured: fresh_measured(0),
         summary: no_summary(steps),
         on: step_now(first),
         readings: no_readings(),

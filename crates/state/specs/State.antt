@@ -5,6 +5,7 @@ use lib.Dec.{ltb, leb, eqb}
 use Rattle.model.specs.declared.Length.{Length}
 use Rattle.model.specs.declared.Length.the-variants.{Time, Distance, Open}
 use Rattle.order.specs.declared.Played.{Played}
+use Rattle.power.specs.declared.ReadingOption.the-variants as reading
 use Rattle.readings.specs.declared.Sample.{Sample}
 use Rattle.readings.specs.declared.Compliance.the-variants.{Under, In, Over}
 use Rattle.readings.specs.declared.ComplianceOption.{ComplianceOption}
@@ -16,6 +17,7 @@ use Rattle.state.specs.declared.PctOption.the-variants.{None, Some}
 use Rattle.state.specs.declared.Part.{Part}
 use Rattle.state.specs.declared.Summary.{Summary}
 use Rattle.state.specs.declared.Lap.{Lap}
+use Rattle.state.specs.declared.Measured.{Measured}
 use Rattle.state.specs.declared.StepNow.{StepNow}
 use Rattle.state.specs.declared.Core.{Core}
 
@@ -73,6 +75,22 @@ distanceMm metres lap = distanceM metres lap * 1000
 -- The lap of a step's start.
 abbrev pub freshLap : Lap
 freshLap = record { «step_ms» = 0; «step_mm» = 0; «extra_s» = 0; «extra_m» = 0 }
+
+-- What the tests have measured at a step's start: "Test sums, seconds' list, rest and best minute now begin empty whenever a step
+-- starts." (document 02, d.) The time under a ramp isn't among them. With no place filled, what stands in the minute counts for nothing.
+abbrev pub freshMeasured : ℕ → Measured
+freshMeasured low =
+    record {
+      «test_mj» = 0;
+      «test_ms» = 0;
+      «minute_rest_ms» = 0;
+      «ramp_low_ms» = low;
+      ring = record { «best_minute» = reading.None; «minute_at» = 0; «minute_len» = 0 };
+    }
+
+-- "`test_mj` ≤ 65,535 × `test_ms`": the energy is a sum of 16-bit readings.
+abbrev pub SmallEnergy : Measured → Type 0
+SmallEnergy m = m .«test_mj» ≤ 65535 * m .«test_ms»
 
 abbrev pub extendedLap : ℕ → ℕ → Lap → Lap
 extendedLap secs metres lap =

@@ -3,7 +3,7 @@
 // The workout and the minute's watts stand apart in `Player`, so that what a round of riding changes is small (`Core`).
 ghost use mathlib.Core.Path.{_≡_};
 ghost use Prim.Native.Nat.{_+_, _-_, _*_, _≤_, min};
-ghost use Rattle.state.specs.State.{inTargetPct, durationMs, distanceM, distanceMm, timeShare, wayShare, shareOf, untilEnd, tallied, TallyFits, eventPlaces, readCore, extendedLap, stepNow};
+ghost use Rattle.state.specs.State.{inTargetPct, durationMs, distanceM, distanceMm, timeShare, wayShare, shareOf, untilEnd, tallied, TallyFits, eventPlaces, readCore, freshMeasured, extendedLap, stepNow};
 use model::Intensity;
 use model::Length;
 use model::Target;
@@ -64,7 +64,7 @@ pub struct Ring {
     pub minute_len: u8,
 }
 
-// What the tests measure.
+// What the tests measure, of the step on now alone but for the time under a ramp.
 pub struct Measured {
     // The twenty minutes' energy and time.
     pub test_mj: u64,
@@ -212,6 +212,23 @@ impl Lap {
         q.extra_s = q.extra_s + extra_s;
         q.extra_m = q.extra_m + extra_m;
         q
+    }
+}
+
+// What the tests have measured at a step's start: nothing. The time under a ramp is handed on.
+pub fn fresh_measured(ramp_low_ms: u64) -> Measured
+    ensures { λ r. ⌜ r ≡ freshMeasured «ramp_low_ms» ⌝ }
+{
+    Measured {
+        test_mj: 0,
+        test_ms: 0,
+        minute_rest_ms: 0,
+        ramp_low_ms,
+        ring: Ring {
+            best_minute: ReadingOption::None,
+            minute_at: 0,
+            minute_len: 0,
+        },
     }
 }
 

@@ -17,9 +17,10 @@ use Rattle.power.specs.Power.{orZero, isSome}
 use Rattle.events.specs.Events.{Event, countdown, started, finished, ftp, eventsIf, Wrote}
 use Rattle.state.specs.declared.Summary.{Summary}
 use Rattle.state.specs.declared.Lap.{Lap}
+use Rattle.state.specs.declared.Measured.{Measured}
 use Rattle.state.specs.declared.StepNow.{StepNow}
 use Rattle.state.specs.declared.Core.{Core}
-use Rattle.state.specs.State.{durationMs, distanceMm, freshLap, stepNow}
+use Rattle.state.specs.State.{durationMs, distanceMm, freshLap, freshMeasured, SmallEnergy, stepNow}
 use Rattle.measure.specs.Measure.{resultOf, rampFailed}
 use Rattle.step_end.specs.declared.Moved.{Moved}
 
@@ -79,8 +80,12 @@ endedSummary last skipped result s =
       finished = last;
     }
 
--- The core after a step's end, with what was found at the next position. "`ramp_low_ms`, test sums and the minute ring run on
--- across steps."
+-- "A test stands on its own step." (document 02, d; sums and ring "run on across steps" in document 01, now `ramp_low_ms` alone.) At the
+-- finish no step starts, and what was measured stays.
+abbrev pub measuredAfter : PlayedOption → Measured → Measured
+measuredAfter found m = cond (found .found) (freshMeasured (m .«ramp_low_ms»)) m
+
+-- The core after a step's end, with what was found at the next position.
 unfoldable pub arrived : PlayedOption → Bool → ReadingOption → Core → Core
 arrived found skipped result c =
     record {
@@ -89,7 +94,7 @@ arrived found skipped result c =
       «total_ms» = c .«total_ms»;
       «total_mm» = c .«total_mm»;
       lap = freshLap;
-      measured = c .measured;
+      measured = measuredAfter found (c .measured);
       summary = endedSummary (not (found .found)) skipped result (c .summary);
       on = stepAfter found (c .on);
       readings = c .readings;
@@ -121,7 +126,7 @@ pub record NextFits (c : Core) : Type 0 where
   pub position : c .position ≤ 96
   pub done : c .summary .«steps_done» ≤ 96
   pub skipped : c .summary .skipped ≤ 96
-  pub energy : c .measured .«test_mj» ≤ 65535 * c .measured .«test_ms»
+  pub energy : SmallEnergy (c .measured)
   pub time : c .measured .«test_ms» ≤ 604800000
 
 -- A call's answer is the outcome's core, and its events stand in the arrays.

@@ -5,7 +5,7 @@ ghost use mathlib.Core.List.{[], _∷_, _++_};
 ghost use Prim.Native.Nat.{_+_, _≤_};
 ghost use lib.ListN.{length};
 ghost use Rattle.events.specs.Events.{Wrote};
-ghost use Rattle.step_end.specs.StepEnd.{dueAt, countdownsTo, countdownsOf, isOver, orElse, stepAfter, arrived, nextOf, NextFits, Moves};
+ghost use Rattle.step_end.specs.StepEnd.{dueAt, countdownsTo, countdownsOf, isOver, orElse, stepAfter, measuredAfter, arrived, nextOf, NextFits, Moves};
 use events::COUNTDOWN;
 use events::FINISHED;
 use events::FTP;
@@ -21,8 +21,10 @@ use order::played_at;
 use power::ReadingOption;
 use state::Core;
 use state::Lap;
+use state::Measured;
 use state::StepNow;
 use state::Summary;
+use state::fresh_measured;
 use state::less;
 use state::step_now;
 use zones::TrainingProfile;
@@ -143,6 +145,16 @@ fn step_after(found: PlayedOption, on: StepNow) -> StepNow
     on
 }
 
+// What the tests have measured as the next step starts; after the last it stays.
+fn measured_after(found: PlayedOption, measured: Measured) -> Measured
+    ensures { λ r. ⌜ r ≡ measuredAfter found measured ⌝ }
+{
+    if found.found {
+        return fresh_measured(measured.ramp_low_ms);
+    }
+    measured
+}
+
 // The end of the step on now, `found` being what comes next and `ftp` what a test measured.
 fn arrive(core: Core, found: PlayedOption, ftp: ReadingOption, skipped: bool) -> Core
     requires { ⌜ NextFits core ⌝ }
@@ -151,6 +163,7 @@ fn arrive(core: Core, found: PlayedOption, ftp: ReadingOption, skipped: bool) ->
     let summary = core.summary;
     let before = summary.ftp;
     let on = core.on;
+    let measured = core.measured;
     let last = !found.found;
     Core {
         position: core.position + 1,
@@ -160,6 +173,7 @@ fn arrive(core: Core, found: PlayedOption, ftp: ReadingOption, skipped: bool) ->
             extra_s: 0,
             extra_m: 0,
         },
+        measured: measured_after(found, measured),
         summary: Summary {
             ftp: or_else(ftp, before),
             steps_done: summary.steps_done + 1,

@@ -19,14 +19,14 @@ use Rattle.rounds.specs.Rounds.{advanced, closed, roundOf, rounds}
 use Rattle.screen.specs.Screen.{remainingOf}
 use Rattle.start.specs.Start.{fresh, newOf}
 use Rattle.outcomes.specs.Outcomes.{extendCore, extendBy}
-use Rattle.updates.specs.Updates.{rideNow}
-use Rattle.player.specs.Calls.{updateAnswer, rideAnswer, rideOf, readAnswer, readOf, extendWith}
+use Rattle.updates.specs.Updates.{rideNow, skipNow}
+use Rattle.player.specs.Calls.{updateAnswer, rideAnswer, rideOf, readAnswer, readOf, skipAnswer, skipOf, extendWith}
 use Rattle.reports.specs.Reports.{remainingSecs, untilOf}
 use Rattle.bench_sheet.proofs.further_facts.Statement.{statement}
 use Rattle.bench_sheet.proofs.further_facts.Tie as tie
 
 returns : tie.Need-returns
-unfolding flatMap all range sum allAt nameOk percentOf heartZone heartRange bandOf capped rampOption blocksSound allApart repeats run runs blockAt order playedLen nth stepAt playedOf formOk stepSlots blockSlots isNoStep stepOk validAnswer workoutAnswer window meanBy average averageOf added taken complianceOf tallied shareOf untilEnd readCore measuredOf twentyFtp resultOf countdownsTo isOver arrived nextOf sameLength sameTarget sameStep sameBytes sameName onPlace coreOk standingOf advanced closed roundOf rounds fresh newOf rideNow updateAnswer rideAnswer rideOf readAnswer readOf extendCore extendBy extendWith untilOf pushed pushes rampPart rampBand ofFtp wattsAt stageOf stageWatts readingOf judged remainingOf remainingSecs hasUntimed plannedFrom
+unfolding flatMap all range sum allAt nameOk percentOf heartZone heartRange bandOf capped rampOption blocksSound allApart repeats run runs blockAt order playedLen nth stepAt playedOf formOk stepSlots blockSlots isNoStep stepOk validAnswer workoutAnswer window meanBy average averageOf added taken complianceOf tallied shareOf untilEnd readCore measuredOf twentyFtp resultOf countdownsTo isOver arrived nextOf sameLength sameTarget sameStep sameBytes sameName onPlace coreOk standingOf advanced closed roundOf rounds fresh newOf rideNow updateAnswer rideAnswer rideOf readAnswer readOf skipNow skipAnswer skipOf extendCore extendBy extendWith untilOf pushed pushes rampPart rampBand ofFtp wattsAt stageOf stageWatts readingOf judged remainingOf remainingSecs hasUntimed plannedFrom
 returns c =
     record {
       three = refl;
@@ -70,6 +70,13 @@ returns c =
       most-metres = (refl, refl);
       none-more = refl;
       not-extended = (refl, refl);
+      own-average = (refl, refl);
+      own-after-skip = refl;
+      own-minute = (refl, refl);
+      own-seconds = refl;
+      own-rest = refl;
+      at-finish = refl;
+      low-runs-on = refl;
       first-stage = (refl, refl);
     }
 

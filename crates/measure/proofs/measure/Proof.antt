@@ -1,8 +1,8 @@
 -- `measure`: one case for each test; the ramp's numbers are those of its callees.
 use Rattle.measure.proofs.Laws.{ramp-energy}
+use Rattle.state.specs.State.{SmallEnergy}
 use Rattle.measure.specs.Measure.{Meter, meter, measuredOf}
 use denote.Ref.{now}
-use Prim.Native.Nat.{_*_, _≤_}
 use mathlib.Core.Path.{sym, subst, _∙_}
 use borrow.Author.Needs.{needs}
 use Rattle.measure.proofs.measure.Statement.{statement}
@@ -57,7 +57,7 @@ unfolding measuredOf
 returns-3 c = (
   simp (sym (c .before .before .before .before .before .before .before .before .before .test-in .ensures) ∙ c .before .before .before .before .before .before .before .enum-told3 .given .1)
       (simp (c .before .before .low-after .ensures, c .before .before .before .watts .ensures, c .before .before .before .before .ramp-target .ensures, c .before .before .before .before .before .ramp .ensures, c .before .before .before .before .before .before .before .before .before .before .or-zero .ensures) at (c .ramp-part .ensures)),
-  subst (λ (m : Meter). m .measured .«test_mj» ≤ 65535 * m .measured .«test_ms») (sym (c .ramp-part .ensures)) (ramp-energy _ _ _ (meter (c .before .before .before .before .before .before .before .before .before .before .before .before .args .measured) (now (c .before .before .before .before .before .before .before .before .before .before .before .before .args .minute))) (c .before .before .before .before .before .before .before .before .before .before .before .before .pre .0 .energy)),
+  subst (λ (m : Meter). SmallEnergy (m .measured)) (sym (c .ramp-part .ensures)) (ramp-energy _ _ _ (meter (c .before .before .before .before .before .before .before .before .before .before .before .before .args .measured) (now (c .before .before .before .before .before .before .before .before .before .before .before .before .args .minute))) (c .before .before .before .before .before .before .before .before .before .before .before .before .pre .0 .energy)),
 )
 
 pub measure-spec : {M : Type 1} → statement M
