@@ -124,6 +124,7 @@ const AMOUNTS: Comparison = ("amounts", "0 1");
 const TWO_TESTS: Comparison = ("two_tests", "0 1");
 const COMPARE: Comparison = ("compare", "0 1");
 const CUTTING: Comparison = ("cutting", "300 1");
+const ONE_READING: Comparison = ("one_reading", "300 1");
 
 /// Those that a change of a file is looked for by, one after the other until it is found.
 fn comparisons(file: &str) -> &'static [Comparison] {
@@ -132,7 +133,8 @@ fn comparisons(file: &str) -> &'static [Comparison] {
         "played.rs" | "players.rs" => &[PLAYER, REPLAY, AMOUNTS],
         "replays.rs" => &[REPLAY],
         "fields.rs" => &[PLAYER],
-        "machine.rs" | "cutting.rs" => &[CUTTING],
+        "machine.rs" | "cut.rs" | "cutting.rs" => &[CUTTING],
+        "one_reading.rs" => &[ONE_READING],
         "build" | "two_tests.rs" => &[TWO_TESTS],
         _ => &[COMPARE, PLAYER],
     }
@@ -151,7 +153,7 @@ fn main() {
     let (said, found) = copy.different();
     println!("no change | {said}");
     missed += usize::from(found);
-    for (program, words) in [PLAYER, REPLAY, AMOUNTS, TWO_TESTS, COMPARE, CUTTING] {
+    for (program, words) in [PLAYER, REPLAY, AMOUNTS, TWO_TESTS, COMPARE, CUTTING, ONE_READING] {
         copy.build(program);
         let (said, found) = copy.run(program, words);
         println!("no change | {program} {words}: {}", if found { &said } else { "nothing" });

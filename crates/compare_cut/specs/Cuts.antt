@@ -1,5 +1,5 @@
 -- A list of calls with event arrays of the lengths that the calls name, what each of them gives by the definitions of crate `player`,
--- and the words after each; tests/oracle/cutting.rs has the layout.
+-- and the words after each; tests/oracle/cut.rs has the layout.
 use mathlib.Core.Path.{_≡_}
 use mathlib.Core.Bool.{cond}
 use mathlib.Core.List.{List, [], _∷_}

@@ -1,5 +1,5 @@
 // Plays a list of calls on the player of a workout file, with event arrays of the lengths that the calls name, and answers with words
-// after each, for tests only (tests/oracle/cutting.rs has the layout).
+// after each, for tests only (tests/oracle/cut.rs has the layout).
 ghost use mathlib.Core.Path.{_≡_};
 ghost use Prim.Native.Nat.{_≤_, _<_, _%_, min};
 ghost use lib.ListN.{length};

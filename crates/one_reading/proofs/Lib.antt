@@ -1,0 +1,4 @@
+pub mod Means
+pub mod Beside
+pub mod TestSums
+pub mod Accepted

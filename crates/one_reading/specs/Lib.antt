@@ -1,0 +1,2 @@
+pub mod OneReading
+pub mod Pairs
