@@ -20,16 +20,16 @@ powerOf m = lastPower (m .readings)
 abbrev pub testAt : Workout → Machine → ℕ
 testAt w m = testing (stepAt w (m .step .position))
 
+abbrev pub longerBy : Workout → ℕ → Machine → Option ℕ
+longerBy w secs m = extraAfter (stepAt w (m .step .position)) secs (m .step .extra)
+
 module _ (w : Workout) (p : TrainingProfile) where
   -- The machine after a call that isn't refused, and after a list of them.
-  abbrev pub longerBy : ℕ → Machine → Option ℕ
-  longerBy secs m = extraAfter (stepAt w (m .step .position)) secs (m .step .extra)
-
   abbrev pub onCall : Call → Machine → Machine
   onCall (read sample) m = reading sample m
   onCall (ride ms mm kinds values) m = milliseconds w p ms m
   onCall (skip kinds values) m = skipped w (stepAt w (m .step .position)) m
-  onCall (extend secs metres) m = withExtra (longerBy secs m) m
+  onCall (extend secs metres) m = withExtra (longerBy w secs m) m
 
   unfoldable pub onCalls : List Call → Machine → Machine
   onCalls [] m = m
@@ -134,8 +134,8 @@ module _ (w : Workout) (p : TrainingProfile) where
       subst (λ (t : StepTime). Beside d (skipped w (stepAt w (m .step .position)) m) (skipped w (stepAt w (t .position)) n)) (sym (B .step))
       (skipped-by (stepAt w (m .step .position)) B)
   call-beside (extend secs metres) {d} {m} {n} B =
-      subst (λ (t : StepTime). Beside d (withExtra (longerBy w p secs m) m) (withExtra (extraAfter (stepAt w (t .position)) secs (t .extra)) n)) (sym (B .step))
-      (extended-by (longerBy w p secs m) B)
+      subst (λ (t : StepTime). Beside d (withExtra (longerBy w secs m) m) (withExtra (extraAfter (stepAt w (t .position)) secs (t .extra)) n)) (sym (B .step))
+      (extended-by (longerBy w secs m) B)
 
   -- The time in the test step is the same, and the power summed over it higher by d for each of its milliseconds.
 

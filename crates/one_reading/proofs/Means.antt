@@ -1,6 +1,7 @@
 -- A sum over a time, and one that is e higher: how far a `Twenty` result moves, with both its roundings.
 use mathlib.Core.Path.{_≡_, ap}
 use mathlib.Core.Bool.{Bool, true, false, cond, _&&_}
+use mathlib.Core.List.{[]}
 use Prim.Native.Nat.{ℕ, zero, suc, _+_, _-_, _*_, _/_, _≤_, _<_}
 use native.Mathlib.Nat.{add-mul, one-mul, div-lt-iff-lt-mul, div-zero}
 use native.Mathlib.Omega.{arith}
@@ -8,7 +9,7 @@ use lib.Dec.{leb}
 use Rattle.power.specs.declared.ReadingOption.{ReadingOption}
 use Rattle.power.specs.declared.ReadingOption.the-variants.{None, Some}
 use Rattle.power.specs.Power.{orZero}
-use Rattle.machine.specs.Machine.{kept}
+use Rattle.machine.specs.Machine.{Sums, kept, twentyWatts}
 use Rattle.one_reading.specs.OneReading.{quotientUp}
 
 some-is : {f g : ℕ} → Some f ≡ Some g → f ≡ g
@@ -25,16 +26,19 @@ kept-by : (b : Bool) (f g : ℕ) → cond b (Some f) None ≡ Some g → f ≡ g
 kept-by true f g e = some-is e
 kept-by false f g e = none-not e
 
--- The result of a sum over a time.
-abbrev pub meanOf : ℕ → ℕ → ℕ
-meanOf S T = (S + T / 2) / T
+-- The machine's result of a sum over a time; the mean in it.
+abbrev sumsOf : ℕ → ℕ → Sums
+sumsOf S T = record { sum = S; time = T; rest = 0; seconds = [] }
 
 abbrev pub twentyOf : ℕ → ℕ → ReadingOption
-twentyOf S T = kept ((meanOf S T * 95 + 50) / 100)
+twentyOf S T = kept (twentyWatts (sumsOf S T))
 
-twenty-watts : (S T f : ℕ) → twentyOf S T ≡ Some f → (meanOf S T * 95 + 50) / 100 ≡ f
+abbrev meanOf : ℕ → ℕ → ℕ
+meanOf S T = (S + T / 2) / T
+
+twenty-watts : (S T f : ℕ) → twentyOf S T ≡ Some f → twentyWatts (sumsOf S T) ≡ f
 twenty-watts S T f e =
-    let watts : ℕ = (meanOf S T * 95 + 50) / 100 in
+    let watts : ℕ = twentyWatts (sumsOf S T) in
     kept-by (leb 50 watts && leb watts 600) watts f e
 
 -- without time there is no result

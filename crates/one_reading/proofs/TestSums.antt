@@ -219,7 +219,7 @@ module _ (w : Workout) (p : TrainingProfile) (H : Held w) (tw : w .test ≡ Twen
   call-sums (read sample) R = sums-same (read-sums sample R)
   call-sums (ride ms mm kinds values) R = milliseconds-sums ms R
   call-sums (skip kinds values) {m = m} R = sums-same (skipped-sums (stepAt w (m .step .position)) refl R)
-  call-sums (extend secs metres) {m = m} R = sums-same (extended-sums (longerBy w p secs m) R)
+  call-sums (extend secs metres) {m = m} R = sums-same (extended-sums (longerBy w secs m) R)
 
   list-sums : (l : List Call) {S T : ℕ} {m : Machine} → TestSums S T m → TestSums (S + powerOn w p l m) (T + timeOn w p l m) (onCalls w p l m)
   unfolding onCalls over

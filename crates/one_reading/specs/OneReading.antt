@@ -6,7 +6,7 @@
 -- players then have an FTP, so that f is the first's and g the second's (`Bounded`):
 --   time was ridden in the test step, the same in both lists, and that reading was the latest for as much of it in both;
 --   g isn't lower than f;
---   g is at most f and the rise in watts times the share of the test step's time for which that reading was the latest, rounded up.
+--   g is at most f plus the rise in watts times the share of the test step's time for which that reading was the latest, rounded up.
 --
 -- The statement itself, `OneReading`, stands below those definitions; `one_reading::one_reading` proves it.
 use mathlib.Core.Path.{_≡_}
@@ -64,7 +64,7 @@ ftpOf w p l = freshRun w p l .player .core .summary .ftp
 
 -- Time in the test step.
 
--- How much of a millisecond in a step is in the test step: all or nothing.
+-- A millisecond counts for 1 in a test step, and for 0 in another one and after the finish.
 unfoldable pub testing : Option Step → ℕ
 testing none = 0
 testing (some s) = cond (isTest (s .intensity)) 1 0
@@ -106,8 +106,8 @@ untilRead [] = []
 untilRead (c ∷ l) = cond (isRead c) [] (c ∷ untilRead l)
 
 -- "and t those ridden in it while that reading was the latest"
-unfoldable pub heldTime : Workout → TrainingProfile → TwoLists → ℕ → ℕ
-heldTime w p q watts = testTime w p (untilRead (q .after)) (afterCalls w p (alone (q .before ++ (thatRead q watts ∷ []))) begun)
+unfoldable pub latestTime : Workout → TrainingProfile → TwoLists → ℕ → ℕ
+latestTime w p q watts = testTime w p (untilRead (q .after)) (afterCalls w p (alone (q .before ++ (thatRead q watts ∷ []))) begun)
 
 -- The statement.
 
@@ -116,7 +116,7 @@ unfoldable pub quotientUp : ℕ → ℕ → ℕ
 quotientUp a b = (a + (b - 1)) / b
 
 unfoldable pub mostRise : Workout → TrainingProfile → TwoLists → ℕ
-mostRise w p q = quotientUp (q .rise * heldTime w p q (q .watts)) (wholeTime w p q (q .watts))
+mostRise w p q = quotientUp (q .rise * latestTime w p q (q .watts)) (wholeTime w p q (q .watts))
 
 pub record Comparable (w : Workout) (p : TrainingProfile) (q : TwoLists) : Type 0 where
   -- "Take a `Twenty` workout with one played test step, without distance steps and ramp targets."
@@ -136,7 +136,7 @@ pub record Bounded (w : Workout) (p : TrainingProfile) (q : TwoLists) (f g : ℕ
   -- T and t are those of either list, and T isn't 0
   pub some-time : 0 < wholeTime w p q (q .watts)
   pub same-time : wholeTime w p q (q .watts + q .rise) ≡ wholeTime w p q (q .watts)
-  pub same-held : heldTime w p q (q .watts + q .rise) ≡ heldTime w p q (q .watts)
+  pub same-latest : latestTime w p q (q .watts + q .rise) ≡ latestTime w p q (q .watts)
   -- "the second isn't lower"
   pub not-lower : f ≤ g
   -- "and exceeds the first by at most d × t / T rounded up"

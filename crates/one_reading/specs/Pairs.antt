@@ -1,5 +1,5 @@
--- Pairs of lists that `OneReading` speaks of, and that its bound can't be smaller: what the player's FTPs, T and t of document 02's n are
--- in them, and that the second FTP is the first and the whole bound. And a pair that shows why the workout plays one test step only.
+-- Pairs of lists that `OneReading` speaks of, with the players' FTPs and document 02's t and T in numbers. In each the second FTP is the
+-- first plus the whole bound, so that no smaller bound is true. And a pair that shows why the workout plays one test step only.
 use mathlib.Core.Path.{_≡_}
 use mathlib.Core.List.{List, [], _∷_}
 use Prim.Native.Nat.{ℕ, _+_, _*_, _/_, _<_}
@@ -11,7 +11,7 @@ use Rattle.model.specs.declared.Workout.{Workout}
 use Rattle.power.specs.declared.ReadingOption.the-variants.{None, Some}
 use Rattle.machine.specs.Cutting.{Call, read, ride, skip, extend}
 use Rattle.machine.specs.Samples.{step, workout, pair, profile, watts}
-use Rattle.one_reading.specs.OneReading.{TwoLists, first, second, ftpOf, playedTests, wholeTime, heldTime, quotientUp, mostRise, Comparable}
+use Rattle.one_reading.specs.OneReading.{TwoLists, first, second, ftpOf, playedTests, wholeTime, latestTime, quotientUp, mostRise, Comparable}
 
 abbrev pub readAt : ℕ → Call
 readAt n = read (watts (Some n))
@@ -30,8 +30,8 @@ shortTest = workout Twenty (step intensities.Test 1 Free ∷ [])
 abbrev pub lastMs : ℕ → TwoLists
 lastMs rise = differing (readAt 100 ∷ rideFor 999 ∷ []) 599 rise (rideFor 1 ∷ [])
 
--- A test between two other steps, the first of them skipped; its second is made two. That reading is the latest for 600 ms of it: in
--- them come a ride of 0 ms and the extend, and a read without power ends them.
+-- A test of 1 s between two other steps, the first of them skipped, the test made longer by 1 s. That reading is the latest for 600 ms of
+-- it: in them come a ride of 0 ms and the extend, and a read without power ends them.
 abbrev pub amongSteps : Workout
 amongSteps = workout Twenty (step Warmup 1 Free ∷ step intensities.Test 1 Free ∷ step Cooldown 1 Free ∷ [])
 
@@ -48,7 +48,7 @@ inSecondTest = differing (readAt 111 ∷ rideFor 2000 ∷ []) 111 19 (rideFor 10
 pub record Gives (w : Workout) (q : TwoLists) (f g t T : ℕ) : Type 0 where
   pub first-ftp : ftpOf w profile (first q) ≡ Some f
   pub second-ftp : ftpOf w profile (second q) ≡ Some g
-  pub held : heldTime w profile q (q .watts) ≡ t
+  pub latest : latestTime w profile q (q .watts) ≡ t
   pub whole : wholeTime w profile q (q .watts) ≡ T
 
 pub record SamplePairs : Type 0 where

@@ -12,7 +12,7 @@ use Rattle.machine.specs.Cutting.{Call, read, ride, skip, extend, alone}
 use Rattle.machine.specs.Runs.{Progress, begun, afterCalls}
 use Rattle.machine.specs.ThirdDemand.{InMemory, AllAccepted}
 use Rattle.machine.proofs.Scope.{Held}
-use Rattle.one_reading.specs.OneReading.{TwoLists, thatRead, listOf, first, second, freshRun, ftpOf, callTime, wholeTime, untilRead, heldTime, quotientUp, mostRise, Comparable, Bounded}
+use Rattle.one_reading.specs.OneReading.{TwoLists, thatRead, listOf, first, second, freshRun, ftpOf, callTime, wholeTime, untilRead, latestTime, quotientUp, mostRise, Comparable, Bounded}
 use Rattle.one_reading.proofs.Means.{twentyOf, some-time, twenty-moves}
 use Rattle.one_reading.proofs.Beside.{onCall, onCalls, on-append, over, over-append, callPower, timeOn, powerOn, Beside, time-beside, power-beside}
 use Rattle.one_reading.proofs.TestSums.{ftp-of-sums}
@@ -41,8 +41,8 @@ module _ (w : Workout) (p : TrainingProfile) (q : TwoLists) where
   afterRead : ℕ → Machine
   afterRead watts = onCall w p (thatRead q watts) (onCalls w p (q .before) start)
 
-  abbrev held : ℕ → ℕ
-  held watts = timeOn w p (untilRead (q .after)) (afterRead watts)
+  abbrev latest : ℕ → ℕ
+  latest watts = timeOn w p (untilRead (q .after)) (afterRead watts)
 
   abbrev whole : ℕ → ℕ
   whole watts = timeOn w p (listOf q watts) start
@@ -62,14 +62,14 @@ module _ (w : Workout) (p : TrainingProfile) (q : TwoLists) where
     unfolding afterRead reading
     beside = record { step = refl; power = refl }
 
-    same-held : held (watts + d) ≡ held watts
-    same-held = time-beside w p (untilRead (q .after)) beside
+    same-latest : latest (watts + d) ≡ latest watts
+    same-latest = time-beside w p (untilRead (q .after)) beside
 
     same-whole : whole (watts + d) ≡ whole watts
     same-whole =
         omega (arith, list-over (callTime w p) watts refl, list-over (callTime w p) (watts + d) refl, time-beside w p (q .after) beside)
 
-    higher-total : total (watts + d) ≡ total watts + d * held watts
+    higher-total : total (watts + d) ≡ total watts + d * latest watts
     higher-total =
         omega (arith, list-over (callPower w p) watts refl, list-over (callPower w p) (watts + d) refl, power-beside w p (q .after) beside)
 
@@ -77,7 +77,7 @@ module _ (w : Workout) (p : TrainingProfile) (q : TwoLists) where
 
   record Played (watts : ℕ) : Type 0 where
     whole-is : wholeTime w p q watts ≡ whole watts
-    held-is : heldTime w p q watts ≡ held watts
+    latest-is : latestTime w p q watts ≡ latest watts
     ftp-from : (f : ℕ) → ftpOf w p (listOf q watts) ≡ Some f → twentyOf (total watts) (whole watts) ≡ Some f
 
   module _ (watts : ℕ) (a : Unrefused w p (listOf q watts) begun) where
@@ -92,9 +92,9 @@ module _ (w : Workout) (p : TrainingProfile) (q : TwoLists) where
     unfolding upto
     joined = subst (λ (cs : List Call). Unrefused w p cs begun) (sym (append-assoc (q .before) (thatRead q watts ∷ []) (q .after))) a
 
-    held-by : heldTime w p q watts ≡ held watts
-    unfolding heldTime upto afterRead onCalls begun
-    held-by =
+    latest-by : latestTime w p q watts ≡ latest watts
+    unfolding latestTime upto afterRead onCalls begun
+    latest-by =
         let s : Progress = afterCalls w p (alone upto) begun in
         let later : Unrefused w p (untilRead (q .after) ++ fromRead (q .after)) s =
         subst (λ (cs : List Call). Unrefused w p cs s) (sym (until-from (q .after))) (later-unrefused w p upto (q .after) begun joined) in
@@ -108,7 +108,7 @@ module _ (w : Workout) (p : TrainingProfile) (q : TwoLists) where
         let a : Unrefused w p (listOf q watts) begun = unrefused w p H (C .profiled) (listOf q watts) (fits .reads) accepted in
         record {
           whole-is = whole-by watts a;
-          held-is = held-by watts a;
+          latest-is = latest-by watts a;
           ftp-from =
               λ f e.
               ftp-of-sums w p H (C .twenty) (C .one-test) (listOf q watts) f
@@ -122,7 +122,7 @@ module _ (w : Workout) (p : TrainingProfile) (q : TwoLists) where
         let b : Played (q .watts + q .rise) = played (q .watts + q .rise) (C .second-in-memory) (C .second-accepted) in
         let S : ℕ = total (q .watts) in
         let T : ℕ = whole (q .watts) in
-        let t : ℕ = held (q .watts) in
+        let t : ℕ = latest (q .watts) in
         let lower : twentyOf S T ≡ Some f = a .ftp-from f x in
         let higher : twentyOf (S + q .rise * t) T ≡ Some g =
         sym (ap₂ twentyOf (higher-total (q .watts) (q .rise)) (same-whole (q .watts) (q .rise))) ∙ b .ftp-from g y in
@@ -130,10 +130,10 @@ module _ (w : Workout) (p : TrainingProfile) (q : TwoLists) where
         record {
           some-time = subst (λ (n : ℕ). 0 < n) (sym (a .whole-is)) (some-time S T f lower);
           same-time = b .whole-is ∙ same-whole (q .watts) (q .rise) ∙ sym (a .whole-is);
-          same-held = b .held-is ∙ same-held (q .watts) (q .rise) ∙ sym (a .held-is);
+          same-latest = b .latest-is ∙ same-latest (q .watts) (q .rise) ∙ sym (a .latest-is);
           not-lower = moves .0;
           at-most =
-              subst (λ (n : ℕ). g ≤ f + n) (sym (ap₂ (λ (m n : ℕ). quotientUp (q .rise * m) n) (a .held-is) (a .whole-is))) (moves .1);
+              subst (λ (n : ℕ). g ≤ f + n) (sym (ap₂ (λ (m n : ℕ). quotientUp (q .rise * m) n) (a .latest-is) (a .whole-is))) (moves .1);
         }
 
 returns : tie.Need-returns

@@ -26,19 +26,19 @@ use Rattle.machine.specs.Machine.{start, stepAt, reading, withExtra, skipped, e
 use Rattle.machine.specs.Cutting.{own, alone}
 use Rattle.machine.specs.Samples.{profile}
 use Rattle.machine.specs.Runs.{called, run, begun, pieceAsks, unlessRefused, withPiece, afterPiece, afterPieces, afterCall, afterCalls}
-use Rattle.one_reading.specs.OneReading.{first, second, testing, playedTests, inTest, testTime, wholeTime, untilRead, heldTime, quotientUp, mostRise, Comparable}
+use Rattle.one_reading.specs.OneReading.{first, second, testing, playedTests, inTest, testTime, wholeTime, untilRead, latestTime, quotientUp, mostRise, Comparable}
 use Rattle.one_reading.specs.Pairs.{shortTest, lastMs}
 use Rattle.one_reading.proofs.sample_pairs.Statement.{statement}
 use Rattle.one_reading.proofs.sample_pairs.Tie as tie
 
 returns : tie.Need-returns
-unfolding flatMap all allAt sum range nameOk blocksSound allApart repeats order.stepAt order.order order.run playedOf playedLen nth runs blockAt formOk stepSlots blockSlots isNoStep stepOk validAnswer workoutAnswer bandOf window meanBy average averageOf added taken complianceOf tallied shareOf untilEnd readCore measuredOf twentyFtp resultOf countdownsTo isOver arrived nextOf sameLength sameTarget sameStep sameBytes sameName onPlace coreOk standingOf rounds.advanced rounds.closed rounds.roundOf rounds.rounds fresh newOf extendCore extendBy rideNow skipNow updateAnswer rideAnswer rideOf readAnswer readOf skipAnswer skipOf extendWith start stepAt reading withExtra skipped ended result twenty tally summed ridden endsNow closed isFinished millisecondIn millisecond milliseconds own alone called run begun pieceAsks unlessRefused withPiece afterPiece afterPieces afterCall afterCalls first second testing playedTests inTest testTime wholeTime untilRead heldTime quotientUp mostRise
+unfolding flatMap all allAt sum range nameOk blocksSound allApart repeats order.stepAt order.order order.run playedOf playedLen nth runs blockAt formOk stepSlots blockSlots isNoStep stepOk validAnswer workoutAnswer bandOf window meanBy average averageOf added taken complianceOf tallied shareOf untilEnd readCore measuredOf twentyFtp resultOf countdownsTo isOver arrived nextOf sameLength sameTarget sameStep sameBytes sameName onPlace coreOk standingOf rounds.advanced rounds.closed rounds.roundOf rounds.rounds fresh newOf extendCore extendBy rideNow skipNow updateAnswer rideAnswer rideOf readAnswer readOf skipAnswer skipOf extendWith start stepAt reading withExtra skipped ended result twenty tally summed ridden endsNow closed isFinished millisecondIn millisecond milliseconds own alone called run begun pieceAsks unlessRefused withPiece afterPiece afterPieces afterCall afterCalls first second testing playedTests inTest testTime wholeTime untilRead latestTime quotientUp mostRise
 returns c =
     record {
-      last-ms = (last-ms-comparable 1 (omega arith), record { first-ftp = refl; second-ftp = refl; held = refl; whole = refl });
+      last-ms = (last-ms-comparable 1 (omega arith), record { first-ftp = refl; second-ftp = refl; latest = refl; whole = refl });
       last-ms-met = refl;
       rounded-down = omega arith;
-      percent = (last-ms-comparable 1001 (omega arith), record { first-ftp = refl; second-ftp = refl; held = refl; whole = refl });
+      percent = (last-ms-comparable 1001 (omega arith), record { first-ftp = refl; second-ftp = refl; latest = refl; whole = refl });
       percent-met = refl;
       of-95-percent = omega arith;
       part-of-test = (
@@ -52,10 +52,10 @@ returns c =
           first-in-memory = record { twelve = refl; reads = (omega arith, (tt, (tt, (omega arith, (tt, (omega arith, (tt, (tt, (tt, (tt, (omega arith, (tt, (omega arith, (tt, tt)))))))))))))) };
           second-in-memory = record { twelve = refl; reads = (omega arith, (tt, (tt, (omega arith, (tt, (omega arith, (tt, (tt, (tt, (tt, (omega arith, (tt, (omega arith, (tt, tt)))))))))))))) };
         },
-        record { first-ftp = refl; second-ftp = refl; held = refl; whole = refl },
+        record { first-ftp = refl; second-ftp = refl; latest = refl; whole = refl },
       );
       part-of-test-met = refl;
-      two-tests = (refl, record { first-ftp = refl; second-ftp = refl; held = refl; whole = refl });
+      two-tests = (refl, record { first-ftp = refl; second-ftp = refl; latest = refl; whole = refl });
       two-tests-above = omega arith;
     }
   where
