@@ -1,7 +1,9 @@
-//! Reading and writing a ride record with all of its fields.
+//! Reading and writing a ride record with all of its fields: by the Rattle one of version 2, 74 bytes, by the Rust its own of version 1,
+//! 70 bytes.
 use crate::table::{Line, reading_and_writing};
+use inputs::records::{SIZE, written};
 use std::hint::black_box;
-use vana::workout::history::{Record, SIZE, decode, encode};
+use vana::workout::history::{self, Record, decode, encode};
 use vana::workout::model::{Name, Test};
 use vana::workout::player::Summary;
 
@@ -23,8 +25,10 @@ fn rattle_write(bytes: &[u8], out: &mut [u8; SIZE]) -> u32 {
     read_and_write_record(black_box(bytes.as_ptr()), bytes.len(), out.as_mut_ptr(), SIZE)
 }
 
-fn written() -> [u8; SIZE] {
-    encode(&Record {
+const UNREAD_MS: u64 = 300_000;
+
+fn record() -> Record {
+    Record {
         journal: b'i',
         ride_id: 7,
         started_utc_ms: Some(1_700_000_000_000),
@@ -41,26 +45,27 @@ fn written() -> [u8; SIZE] {
             finished: true,
             ftp: Some(251),
         },
-    })
+    }
 }
 
-/// Read and written again it is the same on both sides, and with one bit changed both refuse it.
-fn alike(bytes: &[u8; SIZE]) -> bool {
+/// Each side's own record is the same read and written again, each reads the other's, and with one bit changed both refuse it.
+fn alike(bytes: &[u8; SIZE], first: &[u8; history::SIZE]) -> bool {
     let (mut out, mut damaged) = ([0; SIZE], *bytes);
     damaged[40] ^= 1;
-    let again = rattle_write(bytes, &mut out) == 0 && out == *bytes && encode(&decode(bytes).unwrap()) == *bytes;
-    again && rattle_read(bytes, 0) == 0 && rattle_read(&damaged, 0) == REFUSED && decode(&damaged).is_none()
+    let again = rattle_write(bytes, &mut out) == 0 && out == *bytes && encode(&decode(first).unwrap()) == *first;
+    let read = rattle_read(bytes, 0) == 0 && rattle_read(first, 0) == 0 && decode(bytes) == decode(first);
+    again && read && rattle_read(&damaged, 0) == REFUSED && decode(&damaged).is_none()
 }
 
 pub fn lines() -> Result<Vec<Line>, String> {
-    let bytes = written();
-    if !alike(&bytes) {
+    let (bytes, first) = (written(&record(), UNREAD_MS), encode(&record()));
+    if !alike(&bytes, &first) {
         return Err("a record as it is read or written".to_string());
     }
     let mut out = [0; SIZE];
-    let rust_read = || decode(black_box(&bytes));
+    let rust_read = || decode(black_box(&first));
     Ok(reading_and_writing(
-        ["record read, 70 bytes", "record write, 70 bytes"],
+        ["record read, 74 bytes (the Rust's 70)", "record write, 74 bytes (the Rust's 70)"],
         "",
         CALLS,
         [

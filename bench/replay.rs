@@ -1,11 +1,12 @@
 //! Whole replays of 4,096 acts by the C call of crate `console`, against the Rust: `decode` of the same file, the player's calls from
-//! the same sheet bytes, its record by `encode`. The Rust is asked no questions.
+//! the same sheet bytes, its record by `encode`, of version 1. The Rust is asked no questions, and counts nothing unread.
 use crate::table::{Line, least};
-use replays::{Act, MAX_ACTS, sheet_of};
+use inputs::records::SIZE;
+use replays::{Act, MAX_ACTS, Met, answer, replay_of, sheet_of};
 use std::hint::black_box;
 use vana::ride::log::Sample;
 use vana::ride::zones::TrainingProfile;
-use vana::workout::history::{Record, SIZE, encode};
+use vana::workout::history::{self, Record, decode, encode};
 use vana::workout::model::{Block, Intensity, Length, MAX_PLAYED, Name, Step, Target, Test, Workout};
 use vana::workout::{codec, player::Player};
 
@@ -50,7 +51,7 @@ fn word(bytes: &[u8], at: usize) -> u64 {
 }
 
 /// The same calls on the Rust's player. Ride is its loop over `until_end` and `ride_part`, since `add` reads anew.
-fn rust(file: &[u8], sheet: &[u8]) -> [u8; SIZE] {
+fn rust(file: &[u8], sheet: &[u8]) -> [u8; history::SIZE] {
     let mut player = Player::new(codec::decode(black_box(file)).unwrap());
     let sheet = black_box(sheet);
     let (kinds, values) = sheet[2..].split_at(half(sheet, 0).into());
@@ -176,8 +177,10 @@ pub fn lines() -> Result<Vec<Line>, String> {
         if given.refusal != 0 {
             return Err(format!("replay {name}: refused {} at act {}", given.refusal, given.act));
         }
-        if out != rust(file, sheet) {
-            return Err(format!("replay {name}: Rattle {out:?}, Rust {:?}", rust(file, sheet)));
+        // All that the Rust's record has, and the bytes of the model, which has unread too.
+        let judged = answer(&replay_of(file.clone(), sheet.clone()), &mut Met::default()).record;
+        if decode(&out) != decode(&rust(file, sheet)) || out != judged {
+            return Err(format!("replay {name}: Rattle {out:?}, model {judged:?}, Rust {:?}", rust(file, sheet)));
         }
         let [rattle, rust] = least(
             ROUNDS,

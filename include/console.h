@@ -14,7 +14,7 @@ extern "C" {
 #endif
 
 /* The bytes of a ride record: `replay` writes so many, or none. */
-#define REPLAY_RECORD_LENGTH 70
+#define REPLAY_RECORD_LENGTH 74
 /* The longest workout file, and the longest ride sheet (4,096 acts), in bytes. Longer ones are refused by 1 and 16. */
 #define REPLAY_WORKOUT_MOST 475
 #define REPLAY_SHEET_MOST 36866
@@ -88,7 +88,7 @@ typedef struct {
  * id                     the ride's id in that journal.
  * start                  when the ride started, in milliseconds UTC. Not looked at where `dated` is 0: the record then has 0.
  * dated                  whether the start is known: 0 no, any other number yes, also with a start of 0.
- * out, out_len           the bytes lent for the record. Accepted, bytes 0 to 69 are the record and later ones stay as they
+ * out, out_len           the bytes lent for the record. Accepted, bytes 0 to 73 are the record and later ones stay as they
  *                        were; refused, all of them stay.
  *
  * What is written and answered is proved, for all arguments, of the code that this call runs. What no proof can see is left to

@@ -1,6 +1,6 @@
 /*
- * The call `replay` of include/console.h from C: accepted rides with every byte of their records, each refusal that can be
- * reached with its act, the order in which they are asked, and what stays of the bytes lent. Prints a line of counts. Ends
+ * The call `replay` of include/console.h from C: accepted rides with every byte of their records, unread time among them, each refusal
+ * that can be reached with its act, the order in which they are asked, and what stays of the bytes lent. Prints a line of counts. Ends
  * with status 1 at the first difference, and names its case.
  */
 #include "console.h"
@@ -60,7 +60,7 @@ static void begin(file *f, uint8_t test, const char *name, uint8_t steps, uint8_
 
 enum { WORK = 1, COOLDOWN = 3, TEST = 4 };
 enum { TIME = 0, DISTANCE = 1, OPEN = 2 };
-enum { FREE = 0, WATTS = 2, CADENCE_BAND = 5 };
+enum { FREE = 0, WATTS = 2, LTHR_BAND = 4, CADENCE_BAND = 5 };
 
 /* A step without a note. */
 static void put_step(file *f, uint8_t intensity, uint8_t kind, uint32_t length, uint8_t target, uint16_t low,
@@ -247,22 +247,28 @@ static void refuse(const char *name, file workout, file sheet, rest r, uint32_t 
 
 /* ---- the cases */
 
-/* The record of `first_sheet` on `first_workout` with `usual`: what the Rust's `encode` (history.rs) writes after `add` of
- * 10,000 ms at 150 W. */
+/* Places in a record: the counts of steps, the tallies in milliseconds, unread, and the check word. */
+enum { COUNTS_AT = 42, TALLIES_AT = 48, UNREAD_AT = 66, CHECK_AT = 70 };
+
+/* The record of `first_sheet` on `first_workout` with `usual`: the fields of the Rust's player after `add` of 10,000 ms at 150 W in
+ * the bytes of document 02's request g, version 2 with a body of 70 (tests/oracle/records.rs), of which the Rust's `decode` reads
+ * them. */
 static const uint8_t first_record[REPLAY_RECORD_LENGTH] = {
-    0x56, 0x57, 0x4B, 0x4F, 0x01, 0x42, 0x69, 0x03, 0x07, 0x00, 0x00, 0x00, 0x00, 0x68, 0xE5, 0xCF, 0x8B, 0x01,
+    0x56, 0x57, 0x4B, 0x4F, 0x02, 0x46, 0x69, 0x03, 0x07, 0x00, 0x00, 0x00, 0x00, 0x68, 0xE5, 0xCF, 0x8B, 0x01,
     0x00, 0x00, 0x05, 0x46, 0x49, 0x52, 0x53, 0x54, 0x00, 0x00, 0x00, 0x00, 0x00, 0x00, 0x00, 0x00, 0x00, 0x00,
     0x00, 0x00, 0x00, 0x00, 0x00, 0x00, 0x01, 0x00, 0x01, 0x00, 0x00, 0x00, 0x10, 0x27, 0x00, 0x00, 0x10, 0x27,
-    0x00, 0x00, 0x00, 0x00, 0x00, 0x00, 0x00, 0x00, 0x00, 0x00, 0x00, 0x00, 0xA7, 0x33, 0x8E, 0x3E,
+    0x00, 0x00, 0x00, 0x00, 0x00, 0x00, 0x00, 0x00, 0x00, 0x00, 0x00, 0x00, 0x00, 0x00, 0x00, 0x00, 0x7D, 0xBB,
+    0xB4, 0x07,
 };
 
-/* The record of `second_sheet` on `second_workout`, also from the Rust's `encode`: a 20-minute test (here of 2 s) with its FTP, a
- * step skipped, an open one not over, time in, under and over, a name of 20 bytes, not dated. */
+/* The record of `second_sheet` on `second_workout`, made alike: a 20-minute test (here of 2 s) with its FTP, a step skipped, an open
+ * one not over, time in, under and over, a name of 20 bytes, not dated. */
 static const uint8_t second_record[REPLAY_RECORD_LENGTH] = {
-    0x56, 0x57, 0x4B, 0x4F, 0x01, 0x42, 0xFF, 0x04, 0xFE, 0xFF, 0xFF, 0xFF, 0x00, 0x00, 0x00, 0x00, 0x00, 0x00,
+    0x56, 0x57, 0x4B, 0x4F, 0x02, 0x46, 0xFF, 0x04, 0xFE, 0xFF, 0xFF, 0xFF, 0x00, 0x00, 0x00, 0x00, 0x00, 0x00,
     0x00, 0x00, 0x14, 0x4F, 0x56, 0x45, 0x52, 0x20, 0x55, 0x4E, 0x44, 0x45, 0x52, 0x53, 0x20, 0x31, 0x32, 0x20,
     0x58, 0x20, 0x34, 0x37, 0x35, 0x01, 0x02, 0x00, 0x03, 0x00, 0x01, 0x00, 0x05, 0x0A, 0x00, 0x00, 0x98, 0x08,
-    0x00, 0x00, 0x2C, 0x01, 0x00, 0x00, 0x41, 0x00, 0x00, 0x00, 0x1D, 0x01, 0x71, 0x03, 0x00, 0xF3,
+    0x00, 0x00, 0x2C, 0x01, 0x00, 0x00, 0x41, 0x00, 0x00, 0x00, 0x1D, 0x01, 0x00, 0x00, 0x00, 0x00, 0x60, 0xB3,
+    0x35, 0x60,
 };
 
 static file second_workout(void) {
@@ -294,10 +300,61 @@ static file second_sheet(void) {
     return sheet_of(acts, sizeof acts / sizeof acts[0]);
 }
 
+/* A heart rate band, no target, a power band over 100 m, a cadence band. */
+static file third_workout(void) {
+    file f = none;
+    begin(&f, 0, "STRAP", 4, 0);
+    put_step(&f, WORK, TIME, 10, LTHR_BAND, 50, 100);
+    put_step(&f, WORK, TIME, 5, FREE, 0, 0);
+    put_step(&f, WORK, DISTANCE, 100, WATTS, 100, 200);
+    put_step(&f, COOLDOWN, OPEN, 0, CADENCE_BAND, 80, 95);
+    put_check(&f);
+    return f;
+}
+
+static file third_sheet(void) {
+    const act acts[] = {
+        profile(200, 160),
+        ride(1500, 0),              /* no reading yet: unread */
+        reading(HEART, 0, 120, 0),
+        ride(3000, 0),              /* in */
+        reading(POWER, 150, 0, 0),
+        ride(2250, 0),              /* no heart rate: unread */
+        reading(HEART, 0, 170, 0),
+        ride(4000, 0),              /* 3,250 ms over; 750 ms without a target */
+        ride(5000, 0),              /* 4,250 ms without a target; 750 ms in: of the last three readings one has power */
+        reading(0, 0, 0, 0),
+        ride(100, 0),               /* it is still one of the three: in */
+        reading(0, 0, 0, 0),
+        ride(700, 0),               /* no power any more: unread */
+        ride(1000, 200000),         /* 500 ms to the end of the 100 m, 500 ms without a cadence: unread */
+        reading(CADENCE, 0, 0, 900),
+        ride(65, 0),                /* in */
+    };
+    return sheet_of(acts, sizeof acts / sizeof acts[0]);
+}
+
 static void set_word(uint8_t *record, size_t at, uint32_t value) {
     for (int i = 0; i < 4; i++) {
         record[at + i] = (uint8_t)(value >> 8 * i);
     }
+}
+
+static void set_check(uint8_t *record) { set_word(record, CHECK_AT, crc32(record, CHECK_AT)); }
+
+/* The record of `third_sheet` on `third_workout` with `usual`: dated, not finished, three of four steps done. */
+static void third_record(uint8_t *record) {
+    const uint32_t tallies[] = {7165, 3915, 0, 3250};
+    memcpy(record, first_record, REPLAY_RECORD_LENGTH);
+    record[7] = 2;
+    memcpy(record + 21, "STRAP", 5);
+    record[COUNTS_AT] = 3;
+    record[COUNTS_AT + 2] = 4;
+    for (size_t i = 0; i < 4; i++) {
+        set_word(record, TALLIES_AT + 4 * i, tallies[i]);
+    }
+    set_word(record, UNREAD_AT, 5450);
+    set_check(record);
 }
 
 /* The first record with other flags and another start. */
@@ -307,17 +364,24 @@ static void dated_record(uint8_t *record, int dated, uint64_t start) {
     for (int i = 0; i < 8; i++) {
         record[12 + i] = dated ? (uint8_t)(start >> 8 * i) : 0;
     }
-    set_word(record, 66, crc32(record, 66));
+    set_check(record);
 }
 
 /* The first record after another time at 150 W, with the step done or not. */
 static void timed_record(uint8_t *record, uint32_t ms, int done) {
     memcpy(record, first_record, REPLAY_RECORD_LENGTH);
     record[7] = done ? 3 : 2;
-    record[42] = done ? 1 : 0;
-    set_word(record, 48, ms);
-    set_word(record, 52, ms);
-    set_word(record, 66, crc32(record, 66));
+    record[COUNTS_AT] = done ? 1 : 0;
+    set_word(record, TALLIES_AT, ms);
+    set_word(record, TALLIES_AT + 4, ms);
+    set_check(record);
+}
+
+/* The first workout ridden for some time without a reading, and then at 150 W. */
+static void unread_record(uint8_t *record, uint32_t unread, uint32_t ms, int done) {
+    timed_record(record, ms, done);
+    set_word(record, UNREAD_AT, unread);
+    set_check(record);
 }
 
 /* The first ride's step of 10 s extended by kind 4, by kind 5 and by both: 1 ms before its end, at it and past it. */
@@ -346,17 +410,38 @@ static void try_extended(void) {
     }
 }
 
+/* The first ride's step of 10 s with its reading absent for none of it, 1 ms, all but 1 ms, and all of it; extended up to question 15,
+ * so a day and 10 s of it; and the third ride. */
+static void try_unread(void) {
+    uint8_t record[REPLAY_RECORD_LENGTH];
+    file workout = first_workout(), strap = third_workout(), sheet = third_sheet();
+    const uint32_t times[] = {0, 1, 9999, 10000};
+    for (size_t i = 0; i < sizeof times / sizeof times[0]; i++) {
+        file ridden = SHEET(ride(times[i], 0), reading(POWER, 150, 0, 0), ride(10000 - times[i], 0));
+        unread_record(record, times[i], 10000 - times[i], 1);
+        try("the first ride, its first time unread", &workout, &ridden, usual, REPLAY_WRITTEN, REPLAY_NO_ACT, record);
+    }
+    file not_done = SHEET(ride(9000, 0), reading(HEART, 0, 150, 0), ride(999, 0));
+    unread_record(record, 9999, 0, 0);
+    try("1 ms before the end, all unread", &workout, &not_done, usual, REPLAY_WRITTEN, REPLAY_NO_ACT, record);
+    file day = sheet_with_two(extend_long, 1440, ride(DAY_MS, 0), ride(DAY_MS, 0));
+    unread_record(record, DAY_MS + 10000, 0, 1);
+    try("a day and 10 s, all unread", &workout, &day, usual, REPLAY_WRITTEN, REPLAY_NO_ACT, record);
+    third_record(record);
+    try("the third ride", &strap, &sheet, usual, REPLAY_WRITTEN, REPLAY_NO_ACT, record);
+}
+
 static void try_accepted(void) {
     file workout = first_workout(), sheet = first_sheet();
     rest r = usual;
     for (r.out_len = REPLAY_RECORD_LENGTH; r.out_len <= REPLAY_RECORD_LENGTH + 10; r.out_len++) {
-        try("the first ride, 70 to 80 bytes lent", &workout, &sheet, r, REPLAY_WRITTEN, REPLAY_NO_ACT, first_record);
+        try("the first ride, 74 to 84 bytes lent", &workout, &sheet, r, REPLAY_WRITTEN, REPLAY_NO_ACT, first_record);
     }
     r.out_len = 5000;
     try("the first ride, 5,000 bytes lent", &workout, &sheet, r, REPLAY_WRITTEN, REPLAY_NO_ACT, first_record);
 
     file test = second_workout(), ridden = second_sheet();
-    r = (rest){255, UINT32_C(4294967294), UINT64_MAX, 0, 71};
+    r = (rest){255, UINT32_C(4294967294), UINT64_MAX, 0, REPLAY_RECORD_LENGTH + 1};
     try("the second ride", &test, &ridden, r, REPLAY_WRITTEN, REPLAY_NO_ACT, second_record);
 
     const uint32_t dated[] = {0, 1, 2, 256, 65536, UINT32_C(0x80000000), UINT32_MAX};
@@ -526,7 +611,7 @@ static void accept(const char *name, file workout, file sheet) {
     uint8_t out[REPLAY_RECORD_LENGTH];
     memset(out, 0, sizeof out);
     replayed given = replay(workout.bytes, workout.len, sheet.bytes, sheet.len, 'b', 1, 0, 0, out, sizeof out);
-    uint32_t check = crc32(out, sizeof out - 4);
+    uint32_t check = crc32(out, CHECK_AT);
     if (given.refusal != REPLAY_WRITTEN) {
         fail(name, "the refusal", REPLAY_WRITTEN, given.refusal);
     }
@@ -534,8 +619,8 @@ static void accept(const char *name, file workout, file sheet) {
         fail(name, "the act", REPLAY_NO_ACT, given.act);
     }
     for (int i = 0; i < 4; i++) {
-        if (out[66 + i] != (uint8_t)(check >> 8 * i)) {
-            fail(name, "a byte of the check word", (uint8_t)(check >> 8 * i), out[66 + i]);
+        if (out[CHECK_AT + i] != (uint8_t)(check >> 8 * i)) {
+            fail(name, "a byte of the check word", (uint8_t)(check >> 8 * i), out[CHECK_AT + i]);
         }
     }
     accepted++;
@@ -574,14 +659,22 @@ static void try_order(void) {
     refuse("a sheet's act before the output", workout, bad_act, r, REPLAY_ACT, 2);
     refuse("the output before the profile", workout, bad_profile, r, REPLAY_OUTPUT, REPLAY_NO_ACT);
     for (r.out_len = 0; r.out_len < REPLAY_RECORD_LENGTH; r.out_len++) {
-        refuse("0 to 69 bytes lent", workout, sheet, r, REPLAY_OUTPUT, REPLAY_NO_ACT);
+        refuse("0 to 73 bytes lent", workout, sheet, r, REPLAY_OUTPUT, REPLAY_NO_ACT);
     }
+    r.out_len = 70;
+    refuse("70 bytes lent, a version 1 record's", workout, sheet, r, REPLAY_OUTPUT, REPLAY_NO_ACT);
+    r.out_len = 73;
+    refuse("73 bytes lent", workout, sheet, r, REPLAY_OUTPUT, REPLAY_NO_ACT);
     r.out_len = REPLAY_RECORD_LENGTH;
     refuse("the profile where the output is long enough", workout, bad_profile, r, REPLAY_PROFILE, 0);
 }
 
 int main(void) {
+    if (REPLAY_RECORD_LENGTH != 74) {
+        fail("include/console.h", "the length of a record", 74, REPLAY_RECORD_LENGTH);
+    }
     try_accepted();
+    try_unread();
     try_extended();
     try_workouts();
     try_sheets();

@@ -18,7 +18,7 @@ use vana::workout::model::{Intensity, Length, Step, Target, Workout};
 const NUMBER: usize = 0;
 const EXTENDED: usize = 4;
 const FINISHED: usize = 14;
-const UNTIL_END: usize = 16 + 6;
+const UNTIL_END: usize = 16 + 7;
 const LEFT: usize = 2 * 16 + 6;
 
 /// What `until_end` is asked of after each call but a ride: the most of question 12.

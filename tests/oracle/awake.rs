@@ -1,7 +1,7 @@
 //! What tests/oracle/awake runs; the words are the Rust's folder and the list of changes. In the list a change is a line
-//! `change: WHAT`, then for each text that is changed `file:`, `old:` and `new:` lines; a file stands below the Rust's src/ or in
-//! tests/oracle/, and the old text stands once in it. A line `lists: no` says that the fixed lists can't hold it. Lines with # and
-//! empty ones are passed over.
+//! `change: WHAT`, then for each text that is changed `file:`, `old:` and `new:` lines; a file stands below the Rust's src/, in
+//! tests/oracle/ or, with its folder, in tools/, and the old text stands once in it. A line `lists: no` says that the fixed lists
+//! can't hold it. Lines with # and empty ones are passed over.
 use std::cell::Cell;
 use std::fs;
 use std::path::{Path, PathBuf};
@@ -32,7 +32,7 @@ fn changes(list: &str) -> Vec<Change> {
     changes
 }
 
-/// The copy: the Rust's folder as `src`, the programs as `tests/oracle`, what is built in `target/oracle`.
+/// The copy: the Rust's folder as `src`, the programs as `tests/oracle`, those of `tools`, what is built in `target/oracle`.
 struct Copy {
     root: PathBuf,
     folder: PathBuf,
@@ -41,6 +41,7 @@ struct Copy {
 }
 
 const RUST: &str = "apps/vana/src";
+const TOOLS: &str = "tools";
 const RUST_FILES: [&str; 5] =
     ["ride/zones.rs", "workout/model.rs", "workout/codec.rs", "workout/player.rs", "workout/history.rs"];
 
@@ -57,6 +58,8 @@ impl Copy {
     fn place(&self, file: &str) -> PathBuf {
         if RUST_FILES.contains(&file) {
             self.root.join("src").join(RUST).join(file)
+        } else if file.starts_with(TOOLS) {
+            self.root.join(file)
         } else {
             self.root.join("tests/oracle").join(file)
         }
@@ -73,7 +76,7 @@ impl Copy {
         for file in RUST_FILES {
             copy(&self.folder.join(RUST).join(file), &self.place(file));
         }
-        for folder in ["tests/oracle", "tests/oracle/stand_ins"] {
+        for folder in ["tests/oracle", "tests/oracle/stand_ins", TOOLS] {
             for entry in fs::read_dir(folder).unwrap().map(|entry| entry.unwrap().path()) {
                 if entry.is_file() {
                     copy(&entry, &self.root.join(&entry));
@@ -125,6 +128,7 @@ const TWO_TESTS: Comparison = ("two_tests", "0 1");
 const COMPARE: Comparison = ("compare", "0 1");
 const CUTTING: Comparison = ("cutting", "300 1");
 const ONE_READING: Comparison = ("one_reading", "300 1");
+const RECORDS: Comparison = ("compare_records", "0 1");
 
 /// Those that a change of a file is looked for by, one after the other until it is found.
 fn comparisons(file: &str) -> &'static [Comparison] {
@@ -132,6 +136,7 @@ fn comparisons(file: &str) -> &'static [Comparison] {
         "workout/player.rs" => &[PLAYER, REPLAY],
         "played.rs" | "players.rs" => &[PLAYER, REPLAY, AMOUNTS],
         "replays.rs" => &[REPLAY],
+        "records.rs" | "compare_records.rs" | "workout/history.rs" | "tools/record.rs" => &[RECORDS],
         "fields.rs" => &[PLAYER],
         "machine.rs" | "cut.rs" | "cutting.rs" => &[CUTTING],
         "one_reading.rs" => &[ONE_READING],
@@ -153,7 +158,7 @@ fn main() {
     let (said, found) = copy.different();
     println!("no change | {said}");
     missed += usize::from(found);
-    for (program, words) in [PLAYER, REPLAY, AMOUNTS, TWO_TESTS, COMPARE, CUTTING, ONE_READING] {
+    for (program, words) in [PLAYER, REPLAY, AMOUNTS, TWO_TESTS, COMPARE, CUTTING, ONE_READING, RECORDS] {
         copy.build(program);
         let (said, found) = copy.run(program, words);
         println!("no change | {program} {words}: {}", if found { &said } else { "nothing" });

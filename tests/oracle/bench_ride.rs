@@ -1,12 +1,14 @@
-//! Writes crates/bench_ride/specs/BenchRide.antt: the files of two examples, and what the model of replays.rs, over the Rust, gives for
-//! them: the record, byte for byte, and the program's line. `bench_ride EXAMPLES`, the folder of the examples.
+//! Writes crates/bench_ride/specs/BenchRide.antt: the files of two examples, and what the model of replays.rs, over the Rust's
+//! player, gives for them: the record, byte for byte by the model of records.rs, and the program's line. `bench_ride EXAMPLES`, the
+//! folder of the examples.
 use replays::{Answer, Met, Replay, answer, replay_of};
 use std::path::Path;
 
 const HEAD: &str = "\
 -- Document 01, 'Bench sheet': \"A step of 10 s at 100 to 200 W, profile 200 and 160, read 150 W, ride 10,000\" from files to record and
--- line, and a ride that is refused. Written by tests/oracle/bench_ride.rs from examples/first and examples/refused, with the record that
--- the Rust writes; compared by tests/oracle/run. The definitions are held against these, since the Rust is outside the proof.
+-- line, and a ride that is refused. Written by tests/oracle/bench_ride.rs from examples/first and examples/refused: how the
+-- Rust's player rides, and the record's bytes by document 02's g. Compared by tests/oracle/run. The definitions are held against these,
+-- since the Rust is outside the proof.
 use mathlib.Core.Path.{_≡_}
 use mathlib.Core.List.{List, [], _∷_, _++_}
 use Prim.Native.Nat.{ℕ}
@@ -18,16 +20,16 @@ use Rattle.line.specs.Line.{lineOf}
 ";
 
 const CALLED: &str = "\
--- The C call, lent the 70 bytes of a record, all of them 0: its answer, and the bytes after it. Journal `i`, id 7, a start, dated.
+-- The C call, lent the 74 bytes of a record, all of them 0: its answer, and the bytes after it. Journal `i`, id 7, a start, dated.
 abbrev pub answered : List ℕ → List ℕ → Replayed
-answered file sheet = replayedOf (replayAnswer file sheet 70)
+answered file sheet = replayedOf (replayAnswer file sheet 74)
 
 abbrev pub left : List ℕ → List ℕ → List ℕ
-left file sheet = replayOutput file sheet 105 7 1700000000000 (isYes 1) (replicate 70 0)
+left file sheet = replayOutput file sheet 105 7 1700000000000 (isYes 1) (replicate 74 0)
 
 -- The program's line.
 abbrev pub printed : List ℕ → List ℕ → List ℕ
-printed file sheet = lineOf (riddenOf file sheet 70)
+printed file sheet = lineOf (riddenOf file sheet 74)
 ";
 
 /// The bytes in rows of ten.
@@ -56,7 +58,7 @@ fn main() {
     println!("{HEAD}");
     define("file", "examples/first/workout.bin", &first.workout);
     define("sheet", "examples/first/ride.bin", &first.sheet);
-    define("stored", "the record that the Rust writes", &given.record);
+    define("stored", "the record, of which the Rust reads every field that it knows", &given.record);
     define("line", &format!("`{}`", given.line().trim_end()), given.line().as_bytes());
     define("refusedFile", "examples/refused/workout.bin", &refused.workout);
     define("refusedSheet", "examples/refused/ride.bin", &refused.sheet);
@@ -67,8 +69,11 @@ fn main() {
         ("accepted", format!("answered file sheet ≡ record {{ refusal = {}; act = {} }}", given.refusal, given.act)),
         ("record-is", "left file sheet ≡ stored".to_string()),
         ("line-is", "printed file sheet ≡ line".to_string()),
-        ("refused", format!("answered refusedFile refusedSheet ≡ record {{ refusal = {}; act = {} }}", why.refusal, why.act)),
-        ("stays", "left refusedFile refusedSheet ≡ replicate 70 0".to_string()),
+        (
+            "refused",
+            format!("answered refusedFile refusedSheet ≡ record {{ refusal = {}; act = {} }}", why.refusal, why.act),
+        ),
+        ("stays", "left refusedFile refusedSheet ≡ replicate 74 0".to_string()),
         ("refused-line-is", "printed refusedFile refusedSheet ≡ refusedLine".to_string()),
     ] {
         println!("  pub {what} : {definition}");

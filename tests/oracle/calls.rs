@@ -87,13 +87,27 @@ fn keep_one_test(random: &mut Random, workout: &mut WorkoutWords) {
     }
 }
 
+/// How a list is ridden: about so many watts, updates of some length, each reading absent once in so many.
+#[derive(Clone, Copy)]
+struct Rider {
+    watts: u32,
+    pace: u32,
+    absent: u32,
+}
+
+/// One in four has loose straps: there the average of three comes and goes too.
+fn rider(random: &mut Random) -> Rider {
+    Rider { watts: random.within(20, 500), pace: random.below(6), absent: if random.once_in(4) { 2 } else { 10 } }
+}
+
 /// Readings of one rider, now and then absent or anything.
-fn sample(random: &mut Random, base: u32, call: &mut Call) {
+fn sample(random: &mut Random, rider: Rider, call: &mut Call) {
     let present = |random: &mut Random, value: u32| match random.below(10) {
-        0 => 0,
-        1 => 1 + random.one_of(&[0, 1, 65_530, 65_535]),
+        _ if random.once_in(rider.absent) => 0,
+        0 => 1 + random.one_of(&[0, 1, 65_530, 65_535]),
         _ => 1 + value,
     };
+    let base = rider.watts;
     let (power, heart, cadence) = (base + random.below(60), random.within(80, 190), random.within(400, 1_200));
     call.power = present(random, power);
     call.heart = present(random, heart);
@@ -125,7 +139,7 @@ fn update(random: &mut Random, pace: u32, call: &mut Call) {
     }
 }
 
-fn call(random: &mut Random, profile: (u32, u32), base: u32, pace: u32) -> Call {
+fn call(random: &mut Random, profile: (u32, u32), rider: Rider) -> Call {
     let kind = match random.below(24) {
         0 => SKIP,
         1 | 2 => EXTEND_WITH,
@@ -134,8 +148,8 @@ fn call(random: &mut Random, profile: (u32, u32), base: u32, pace: u32) -> Call 
         _ => ADD,
     };
     let mut call = Call { kind, ftp: profile.0, lthr: profile.1, ..Call::default() };
-    sample(random, base, &mut call);
-    update(random, pace, &mut call);
+    sample(random, rider, &mut call);
+    update(random, rider.pace, &mut call);
     if random.once_in(200) {
         call.ftp = random.one_of(&[0, 49, 50, 600, 601, 65_535]);
     }
@@ -155,10 +169,9 @@ pub fn random_play(random: &mut Random) -> Play {
         files::sound_file(random, &workout)
     };
     let profile = (random.within(50, 600), random.within(1, 255));
-    let base = random.within(20, 500);
-    let pace = random.below(6);
+    let rider = rider(random);
     let count = random.within(1, 160);
-    let calls = (0..count).map(|_| call(random, profile, base, pace)).collect();
+    let calls = (0..count).map(|_| call(random, profile, rider)).collect();
     Play { file, calls }
 }
 

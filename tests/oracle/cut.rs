@@ -21,12 +21,15 @@ unsafe extern "C" {
 }
 
 /// Refusal (of `new` at first), the check word of the events of kinds 1 to 3 so far, then the summary: targeted, in, under, over,
-/// FTP, steps done, steps, skipped, finished.
-pub const WORDS: usize = 11;
+/// FTP, steps done, steps, skipped, finished, `in_target_pct`, unread. An absent FTP or percentage is 0, else one more.
+pub const WORDS: usize = 13;
 const NO_EVENTS: u32 = 7;
 
 /// The words after a call but for the refusal.
 pub type Words = [u32; WORDS - 1];
+
+/// The place of unread among them.
+pub const UNREAD: usize = 11;
 
 /// The places that a ride or a skip is lent, of kinds and of values: so many, or so many more than question 14 wants then.
 #[derive(Clone, Copy, Debug)]
@@ -107,10 +110,12 @@ pub fn machine_words(m: &Machine) -> Words {
         m.steps() as u32,
         m.skipped,
         m.finished().into(),
+        m.in_target_pct().map_or(0, |pct| 1 + pct as u32),
+        m.unread as u32,
     ]
 }
 
-fn rust_words(s: player::Summary, events: &[Event]) -> Words {
+fn rust_words(s: player::Summary, unread: u64, events: &[Event]) -> Words {
     [
         check_word(events),
         s.targeted_ms as u32,
@@ -122,6 +127,8 @@ fn rust_words(s: player::Summary, events: &[Event]) -> Words {
         s.steps.into(),
         s.skipped.into(),
         s.finished.into(),
+        reading(s.in_target_pct().map(u16::from)),
+        unread as u32,
     ]
 }
 
@@ -145,16 +152,17 @@ fn compared(events: impl IntoIterator<Item = player::Event>) -> impl Iterator<It
     })
 }
 
-/// The Rust's player beside the machine, with the last reading and the events so far.
+/// The Rust's player beside the machine, with the last reading, the events so far, and unread, which it hasn't (players.rs).
 pub struct Beside<P> {
     player: P,
     last: Sample,
+    unread: u64,
     pub events: Vec<Event>,
 }
 
 impl<P: Player> Beside<P> {
     pub fn new(workout: &Workout) -> Self {
-        Self { player: P::of(workout), last: Sample::default(), events: Vec::new() }
+        Self { player: P::of(workout), last: Sample::default(), unread: 0, events: Vec::new() }
     }
 
     /// A call without what is refused of it; ride is the Rust's loop over `until_end` and `ride_part`.
@@ -180,11 +188,12 @@ impl<P: Player> Beside<P> {
             let (part_ms, part_mm) = self.player.until_end(ms, mm);
             ms -= part_ms;
             mm -= part_mm;
+            self.unread += self.player.unread(part_ms, profile);
             self.events.extend(compared(self.player.ride_part(part_ms, part_mm, &self.last, profile)));
         }
     }
 
     pub fn words(&self) -> Words {
-        rust_words(self.player.summary(), &self.events)
+        rust_words(self.player.summary(), self.unread, &self.events)
     }
 }

@@ -6,12 +6,12 @@
 //! amount; the others have the first alone. A sixth are rides to the end of short tests. Rides and skips are lent exactly the
 //! places that question 14 wants then, one fewer in either array, more, 193, or none. Words: how many lists, and the seed. Fails on
 //! a difference, and where a refusal, a kind of event, an extend of each kind accepted and refused by 15, a call with exact arrays,
-//! before the finish and after it, an FTP in a list with at most one played test step, or two different ones in one with more
-//! wasn't met. The layout of calls and words is in cut.rs.
+//! before the finish and after it, a call after which something is unread, a cut ride that adds to that, an FTP in a list with at most
+//! one played test step, or two different ones in one with more wasn't met. The layout of calls and words is in cut.rs.
 mod cut;
 mod machine;
 
-use cut::{Beside, Call, EXACT, Lent, MOST, Words, check_word, feed, machine_words, ours, places_of, words_of};
+use cut::{Beside, Call, EXACT, Lent, MOST, UNREAD, Words, check_word, feed, machine_words, ours, places_of, words_of};
 use inputs::Random;
 use machine::{Event, Machine};
 use players::{Altered, Amount, LONG, Player, Unchanged, compared_for_ftp};
@@ -21,6 +21,10 @@ use vana::workout::model::{Block, Intensity, Length, Step, Target, Test, Workout
 
 /// The kind of an FTP event.
 const FTP: u32 = 3;
+/// Places of words: the check word of the events, targeted, and FTP.
+const CHECK: usize = 0;
+const TARGETED: usize = 1;
+const FTP_WORD: usize = 5;
 
 /// The kinds of extends that are counted: with the Rust's own amount, plain, with another.
 const EXTENDS: usize = 3;
@@ -37,11 +41,11 @@ impl Call {
 }
 
 /// The same without FTP and its events.
-fn but_for_ftp(words: Words, events: &[Event]) -> Words {
+fn but_for_ftp(mut words: Words, events: &[Event]) -> Words {
     let others: Vec<Event> = events.iter().copied().filter(|&(kind, _)| kind != FTP).collect();
-    let [_, targeted, inside, under, over, _, rest @ ..] = words;
-    let [done, steps, skipped, finished] = rest;
-    [check_word(&others), targeted, inside, under, over, 0, done, steps, skipped, finished]
+    words[CHECK] = check_word(&others);
+    words[FTP_WORD] = 0;
+    words
 }
 
 impl<P: Player> Beside<P> {
@@ -105,10 +109,11 @@ fn open_tests() -> Workout {
     Workout::new("OPEN TESTS", &[step, step], &[], Some(Test::Ramp))
 }
 
-fn sample(random: &mut Random, base: u32) -> Sample {
+/// Each reading absent once in so many.
+fn sample(random: &mut Random, base: u32, absent: u32) -> Sample {
     let some = |random: &mut Random, value: u32| match random.below(9) {
-        0 => None,
-        1 => Some([0, 1, 65_530, 65_531, 65_535][random.below(5) as usize]),
+        _ if random.below(absent) == 0 => None,
+        0 => Some([0, 1, 65_530, 65_531, 65_535][random.below(5) as usize]),
         _ => Some(value as u16),
     };
     let (power, heart, cadence) = (base + random.below(60), 80 + random.below(110), 400 + random.below(800));
@@ -192,13 +197,15 @@ fn extend(random: &mut Random, mixed: bool) -> Call {
 fn list(random: &mut Random, mixed: bool) -> Vec<Call> {
     let base = 20 + random.below(500);
     let (tame, far) = (random.below(3) == 0, random.below(6) == 0);
+    // Some with loose straps, so that the average of three comes and goes too.
+    let absent = if random.below(4) == 0 { 2 } else { 9 };
     (0..1 + random.below(14))
         .map(|_| match random.below(10) {
             0 => Call::Skip(if tame { EXACT } else { lent(random) }),
             1 => extend(random, mixed),
             2 if mixed => extend(random, mixed),
             2..5 => Call::Read(loop {
-                let sample = sample(random, base);
+                let sample = sample(random, base, absent);
                 if !tame || sample.cadence_tenths.is_none_or(|tenths| tenths <= 65_530) {
                     break sample;
                 }
@@ -288,6 +295,10 @@ struct Tally {
     extends: [[u64; 2]; EXTENDS],
     /// Rides and skips lent exactly what is wanted: before the finish, and none after it.
     exact: [u64; 2],
+    /// Calls after which something is unread: all of it, and targeted time beside it. Rides cut into two pieces or more that add to
+    /// it.
+    unread: [u64; 2],
+    unread_cut: u64,
     refused: [u64; 21],
     events: [u64; 4],
 }
@@ -314,7 +325,7 @@ fn compare(workout: &Workout, profile: TrainingProfile, calls: &[Call], tally: &
     let (mut unchanged, mut altered) = (Beside::<Unchanged>::new(workout), Beside::<Altered>::new(workout));
     // No extend so far that the unchanged Rust hasn't.
     let mut own = true;
-    let (mut at, mut refused) = (0, false);
+    let (mut at, mut refused, mut unread) = (0, false, 0);
     tally.lists += 1;
     tally.calls += calls.len() as u64;
     tally.test_steps[usize::from(!for_ftp)] += 1;
@@ -334,6 +345,12 @@ fn compare(workout: &Workout, profile: TrainingProfile, calls: &[Call], tally: &
         if answers[at][1..] != words {
             return Some(format!("call {i}: Rattle {:?}, machine {words:?}", &answers[at][1..]));
         }
+        if words[UNREAD] > 0 {
+            tally.unread[usize::from(words[TARGETED] > 0)] += 1;
+        }
+        let cut = matches!(call, Call::Ride(pieces, _) if pieces.iter().filter(|(ms, _)| *ms > 0).count() > 1);
+        tally.unread_cut += u64::from(cut && words[UNREAD] > unread);
+        unread = words[UNREAD];
         if let Some(kind) = call.extends() {
             own &= kind == 0;
             tally.extends[kind][usize::from(numbers[0] != 0)] += 1;
@@ -432,16 +449,22 @@ fn main() {
         tally.extends
     );
     println!("rides and skips with exactly the places wanted, before the finish and after it: {:?}", tally.exact);
+    println!(
+        "calls with unread above 0 (nothing targeted, targeted too): {:?}; cut rides that add to it: {}",
+        tally.unread, tally.unread_cut
+    );
     println!("accepted, then refused by 1 to 20: {:?}", tally.refused);
     println!("events (countdown, started, finished, FTP): {:?}", tally.events);
     let missing = [0, 11, 12, 13, 14, 15].iter().any(|&i| tally.refused[i] == 0)
         || tally.events[1..].contains(&0)
         || tally.exact.contains(&0)
+        || tally.unread.contains(&0)
+        || tally.unread_cut == 0
         || tally.extends.as_flattened().contains(&0)
         || [tally.rust[0], tally.rust[1], tally.measured[0], tally.measured[1], tally.two_ftps].contains(&0);
     if missing {
         println!(
-            "a refusal, a kind of event, an extend, a call with exact arrays, an FTP of one test step or two of more weren't met"
+            "a refusal, a kind of event, an extend, a call with exact arrays or with unread, an FTP of one test step or two of more weren't met"
         );
     }
     std::process::exit((tally.different > 0 || missing).into());

@@ -1,7 +1,7 @@
 //! Players that no list of calls reaches: fields of ours set to their limits, one past them, and to anything; those without a
-//! limit too. The Rust isn't asked. `Model::stands` has document 01's paragraph 'Standing'; a player that doesn't stand is
-//! refused 20 by every call and every report, and one that does is played and stands after each call. A field is its number in
-//! `compare_fields`.
+//! limit too. The Rust isn't asked. `Model::stands` has document 01's paragraph 'Standing' with unread of document 02's request g; a
+//! player that doesn't stand is refused 20 by every call and every report, and one that does is played and stands after each call,
+//! its targeted and unread milliseconds as they were set, since no step here has a target. A field is its number in `compare_fields`.
 use inputs::Random;
 use inputs::calls::fields_file;
 use played::{ADD, Call, EXTEND, READ, RIDE, SET, SKIP, WORDS};
@@ -31,7 +31,8 @@ const STEPS_DONE: usize = 52;
 const SUMMARY_STEPS: usize = 53;
 const SKIPPED: usize = 54;
 const FINISHED: usize = 55;
-const FTP: usize = 56;
+const UNREAD: usize = 56;
+const FTP: usize = 57;
 const INDEX: usize = 64;
 const REPETITION: usize = 65;
 const OF: usize = 66;
@@ -62,7 +63,7 @@ const LENGTHS: [(usize, u64); 3] = [(TIME, 10), (DISTANCE, 100), (OPEN, 0)];
 
 /// Each field with the number of its bits, and values at and past its limits. The last ten have none in 'Standing': they stand at
 /// any value.
-const FIELDS: [(usize, u32, &[u64]); 46] = [
+const FIELDS: [(usize, u32, &[u64]); 47] = [
     (POSITION, 64, &[0, 1, 2, 3, 4, 95, 96, 97]),
     (STEPS, 64, &[0, 1, 2, 3, 4, 96, 97]),
     (TOTAL_MS, 64, &[0, 4_999, 5_000, 49_999, 50_000, 604_800_000, 604_800_001]),
@@ -82,6 +83,8 @@ const FIELDS: [(usize, u32, &[u64]); 46] = [
     (IN, 64, &[0, 29, 30, 31]),
     (UNDER, 64, &[0, 19, 20, 21]),
     (OVER, 64, &[0, 9, 10, 11]),
+    // With 60 ms targeted the last two sums are 0 and 1 where they wrap.
+    (UNREAD, 64, &[0, 1, 99_939, 99_940, 99_941, 100_000, u64::MAX - 60, u64::MAX - 59, u64::MAX - 58]),
     (STEPS_DONE, 16, &[0, 1, 2, 3, 4]),
     (SUMMARY_STEPS, 16, &[0, 2, 3, 4]),
     (SKIPPED, 16, &[0, 1, 2, 3, 4]),
@@ -158,6 +161,7 @@ impl Model {
             (IN, 30),
             (UNDER, 20),
             (OVER, 10),
+            (UNREAD, 40),
             (CADENCE, 900),
             (PLACE, 1),
             (FTP, 250),
@@ -242,7 +246,7 @@ impl Model {
             && self.at(STEP_MS) <= total
             && self.at(STEP_MM) <= self.at(TOTAL_MM)
             && self.at(IN) + self.at(UNDER) + self.at(OVER) == self.at(TARGETED)
-            && self.at(TARGETED) <= total
+            && self.at(TARGETED) + self.at(UNREAD) <= total
             && self.at(TEST_MS) <= total
             && self.at(LOW_MS) <= total
             && self.at(TEST_MJ) <= 65_535 * self.at(TEST_MS)
@@ -299,10 +303,16 @@ fn try_player(ours: Ours, file: &[u8], skips: usize, sets: &[(usize, u64)], tall
     let words = ours(file, &calls);
     let stands = model.stands();
     // The refusals after the sets: of the summary, of what remains, of the distance, of the part and of the screen.
-    let reports = |block: usize| [5, 16, 19, 21, 32].map(|place| words[WORDS * block + place]);
+    let reports = |block: usize| [5, 17, 20, 22, 32].map(|place| words[WORDS * block + place]);
+    let tallies = |block: usize| [6, 16].map(|place| words[WORDS * block + place]);
+    let set = [TARGETED, UNREAD].map(|field| model.values[field] as u32);
     let right = (before + 1..=calls.len()).all(|block| {
         let number = words[WORDS * block];
-        if stands { number != 20 && reports(block) == [0; 5] } else { number == 20 && reports(block) == [20; 5] }
+        if stands {
+            number != 20 && reports(block) == [0; 5] && tallies(block) == set
+        } else {
+            number == 20 && reports(block) == [20; 5] && tallies(block) == [0; 2]
+        }
     });
     tally.played += u64::from(stands);
     tally.refused += u64::from(!stands);
@@ -324,6 +334,27 @@ pub fn try_fields(ours: Ours, count: u64, random: &mut Random) -> Tally {
         }
         let half = 1 << 63;
         try_player(ours, &file, skips, &[(IN, half), (UNDER, half), (OVER, 0), (TARGETED, 0)], &mut tally);
+        let targeted = |ms| [(IN, ms), (UNDER, 0), (OVER, 0), (TARGETED, ms)];
+        let unread = [
+            (half, half),
+            (u64::MAX, 1),
+            (1, u64::MAX),
+            (u64::MAX, u64::MAX),
+            (0, 100_000),
+            (0, 100_001),
+            (100_000, 0),
+            (100_000, 1),
+            (99_999, 1),
+            (50_000, 50_000),
+            (50_000, 50_001),
+        ];
+        for (ms, unread) in unread {
+            try_player(ours, &file, skips, &[&targeted(ms)[..], &[(UNREAD, unread)]].concat(), &mut tally);
+        }
+        // All of a week, and 1 ms more.
+        for ms in [604_799_940, 604_799_941] {
+            try_player(ours, &file, skips, &[(TOTAL_MS, 604_800_000), (UNREAD, ms)], &mut tally);
+        }
         try_player(ours, &file, skips, &[(TEST_MJ, u64::MAX), (TEST_MS, u64::MAX)], &mut tally);
         try_player(ours, &file, skips, &[(STEP_COUNT, 4), (STEPS, 4), (SUMMARY_STEPS, 4)], &mut tally);
         // Those without a limit together, at 0 and at their greatest.

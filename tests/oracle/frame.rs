@@ -51,7 +51,7 @@ const POWER: [usize; 4] = [1, 2, 6, 7];
 
 /// Where the words of played.rs have what a want is read off.
 const SUMMARY_FINISHED: usize = 14;
-const BAND: usize = 16 + 8;
+const BAND: usize = 16 + 9;
 const NOW: usize = 2 * 16;
 const STEP_TARGET: usize = 3 * 16 + 3;
 

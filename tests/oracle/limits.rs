@@ -1,5 +1,5 @@
-//! Plays by hand: each limit of the player at one below, at it and one above. The numbers are the Rust's constants: its public
-//! ones, and the private ones as they stand in the text of player.rs; those that the Rust hasn't are document 01's.
+//! Plays by hand: each limit of the player at one below, at it and one above; and what is unread. The numbers are the Rust's constants:
+//! its public ones, and the private ones as they stand in the text of player.rs; those that the Rust hasn't are document 01's.
 use super::calls::Play;
 use super::{
     CADENCE, FREE, FTP, FTP_RAMP, HEART_ZONE_TARGET, LTHR, RAMP_TARGET, StepWords, Target, WATTS, WorkoutWords, files,
@@ -336,7 +336,80 @@ fn asked() -> Vec<Play> {
     ]
 }
 
+/// Document 02's request g: plays with the targeted and unread milliseconds after the last call, as they follow from its sentences.
+pub fn unread() -> Vec<(Play, [u32; 2])> {
+    const WATTS_BAND: Target = [WATTS, 100, 200, 0];
+    const HEART_BAND: Target = [LTHR, 50, 100, 0];
+    const ZONE: Target = [HEART_ZONE_TARGET, 3, 0, 0];
+    const TURNS: Target = [CADENCE, 60, 90, 0];
+    let open = |target, calls: &[Call]| play(0, &[step(WORK_STEP, OPEN, target)], calls);
+    let timed = |target| step(WORK_STEP, time(10), target);
+    let fading = [ABSENT, ride(30), ABSENT, ride(40), ABSENT, ride(50)];
+    let mut plays = vec![
+        // No band: neither.
+        (open(NO_TARGET, &[ride(1_000), power(150), ride(1_000)]), [0, 0]),
+        // The average is there as long as one of the last three readings is. A reading of 0 is one.
+        (
+            open(WATTS_BAND, &[&[ride(10), power(150), ride(20)], &fading[..], &[power(150), ride(60)]].concat()),
+            [150, 60],
+        ),
+        (open(WATTS_BAND, &[ABSENT, ride(5), ABSENT, ABSENT, ABSENT, ride(6), power(0), ride(7)]), [7, 11]),
+        (open(HEART_BAND, &[heart(0), ride(8), ABSENT, ride(9)]), [8, 9]),
+        (open(TURNS, &[cadence(0), ride(8), ABSENT, ride(9)]), [8, 9]),
+        // A call with its reading; with 0 ms it reads nothing.
+        (open(HEART_BAND, &[add(heart(120)), add(ABSENT), add(heart(120))]), [2_000, 1_000]),
+        (open(HEART_BAND, &[Call { ms: 0, ..add(heart(120)) }, ride(5)]), [0, 5]),
+        (open(HEART_BAND, &[heart(120), Call { ms: 0, ..add(ABSENT) }, ride(5)]), [5, 0]),
+        // A distance step: 2,000 ms of the update are in it. Stages of a ramp, which absent readings don't end.
+        (once(0, &[step(WORK_STEP, distance(100), TURNS)], &[way(3_000, 150_000)]), [0, 2_000]),
+        (play(0, &[step(WORK_STEP, distance(100), TURNS)], &[way(3_000, 150_000)]), [0, 3_000]),
+        (
+            once(
+                RAMP.number,
+                &[step(TEST_STEP, OPEN, [RAMP_TARGET, 200, 20, 1])],
+                &[ride(30_000), power(500), ride(999)],
+            ),
+            [999, 30_000],
+        ),
+        // From a step with a band into one without, the other way round, between bands of which one has its reading, and over three.
+        (once(0, &[timed(WATTS_BAND)], &[ride(15_000)]), [0, 10_000]),
+        (once(0, &[timed(NO_TARGET), timed(WATTS_BAND)], &[ride(15_000)]), [0, 5_000]),
+        (once(0, &[timed(WATTS_BAND), timed(HEART_BAND)], &[heart(120), ride(15_000)]), [5_000, 10_000]),
+        (once(0, &[timed(HEART_BAND), timed(WATTS_BAND)], &[heart(120), ride(15_000)]), [10_000, 5_000]),
+        (once(0, &[timed(ZONE), timed(NO_TARGET), timed(TURNS)], &[ride(40_000)]), [0, 20_000]),
+        // More events in one call than the Rust's have room for.
+        (play(0, &[step(WORK_STEP, time(1), WATTS_BAND); 12], &[Call { ms: 30_000, ..add(ABSENT) }]), [0, 24_000]),
+        // A step skipped, made longer, the last one ended; rides that are refused.
+        (once(0, &[timed(WATTS_BAND)], &[ride(3_000), PRESS, ride(4_000)]), [0, 3_000]),
+        (once(0, &[timed(WATTS_BAND)], &[TOUCH, ride(80_000)]), [0, 1_000 * (10 + EXTEND_S)]),
+        (play(0, &[timed(WATTS_BAND)], &[ride(20_000), ride(5_000), PRESS]), [0, 20_000]),
+        (open(WATTS_BAND, &[ride(DAY_MS + 1), Call { ftp: 49, ..ride(5) }, ride(7)]), [0, 7]),
+        // A week of it, and of both.
+        (open(WATTS_BAND, &[ride(DAY_MS); 8]), [0, 7 * DAY_MS]),
+        (
+            open(TURNS, &[[ride(DAY_MS); 3], [cadence(700), ride(DAY_MS), ride(DAY_MS)]].concat()),
+            [2 * DAY_MS, 3 * DAY_MS],
+        ),
+    ];
+    // No reading ever, under each kind of band.
+    for target in
+        [WATTS_BAND, [FTP, 90, 95, 0], [RAMP_TARGET, 200, 20, 60], [FTP_RAMP, 80, 8, 60], HEART_BAND, ZONE, TURNS]
+    {
+        plays.push((open(target, &[ride(1), ride(999), add(ABSENT)]), [0, 2_000]));
+    }
+    // The newest reading's: one that comes and goes, and one of the two others, which is none.
+    for (target, reading, other) in
+        [(HEART_BAND, heart(120), power(150)), (ZONE, heart(140), cadence(900)), (TURNS, cadence(750), heart(120))]
+    {
+        let goes = [reading, ride(20), ABSENT, ride(30), reading, ride(40), other, ride(50), ride(0)];
+        plays.push((open(target, &goes), [60, 80]));
+    }
+    plays.push((open(WATTS_BAND, &[heart(120), ride(20), cadence(750), ride(30), power(150), ride(40)]), [40, 50]));
+    plays
+}
+
 /// All of them.
 pub fn plays() -> Vec<Play> {
-    [ramps(), twenties(), minutes(), ends(), ways(), bands(), asked()].into_iter().flatten().collect()
+    let unread = unread().into_iter().map(|(play, _)| play).collect();
+    [ramps(), twenties(), minutes(), ends(), ways(), bands(), asked(), unread].into_iter().flatten().collect()
 }

@@ -10,8 +10,8 @@
 //! On a whole replay: the input is seven words (the number of the workout's bytes, journal, id, the start's lower and upper half,
 //! dated, how many bytes are lent), the workout, and the sheet to the end. The answer is the refusal's number, its act, and the
 //! `OUTPUT` bytes, four to a word, that hold the output: they are all `FILL` before, and the first of them are lent. The answers are
-//! those of the model in replays.rs: the unchanged Rust's where the sheet has no kind 5 and the workout at most one played test step,
-//! else those of the altered one.
+//! those of the model in replays.rs: by the unchanged Rust where the sheet has no kind 5 and the workout at most one played test step,
+//! else by the altered one, and the record's bytes by the model of records.rs.
 use inputs::calls::{Play, limit_plays, random_play};
 use inputs::{Random, limit_inputs, random_input};
 use played::{Call, Met};
@@ -25,7 +25,7 @@ const FILES: [&str; 3] = ["answers", "players", "replays"];
 const COUNT: usize = 120;
 /// The question on the player, how many random lists, and how many calls of each list.
 const PLAYER: usize = NAMES.len();
-const LISTS: usize = 70;
+const LISTS: usize = 56;
 const CALLS: usize = 11;
 /// The question on a whole replay, and the bytes that hold its output.
 const REPLAY: usize = PLAYER + 1;
@@ -65,7 +65,9 @@ fn players() -> Vec<u8> {
     println!("events {:?}, lengths {:?}, targets {:?}", met.events, met.lengths, met.targets);
     println!("failed ramps {}, refused {:?}", met.failed_ramps, met.refused);
     println!("{}", met.judged());
-    let kinds = [&met.events[..], &met.lengths, &met.targets, &[met.failed_ramps]].concat();
+    println!("without a reading: lengths {:?}, targets {:?}", met.unread_lengths, met.unread_targets);
+    let unread = [&met.unread_lengths[..], &met.unread_targets[1..]].concat();
+    let kinds = [&met.events[..], &met.lengths, &met.targets, &[met.failed_ramps], &unread].concat();
     assert!(answers >= 1_000 && !kinds.contains(&0), "every kind is to be in the list");
     list
 }

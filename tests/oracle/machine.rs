@@ -1,8 +1,8 @@
-//! Document 01's millisecond machine, written from its paragraph, with question 14 as document 02's c amends it, a step's start as d
-//! and extend as i does, and run millisecond by millisecond. Of the Rust it takes what document 01 lets machine and player share:
-//! the played steps, the band and the heart zone.
+//! Document 01's millisecond machine, written from its paragraph, with question 14 as document 02's c amends it, a step's start as
+//! d, unread as g and extend as i does, and run millisecond by millisecond. Of the Rust it takes what document 01 lets machine and
+//! player share: the played steps, the band and the heart zone.
 use vana::ride::{log::Sample, zones::TrainingProfile};
-use vana::workout::model::{Intensity, Length, Metric, Step, Target, Test, Workout};
+use vana::workout::model::{Band, Intensity, Length, Metric, Step, Target, Test, Workout};
 
 /// An event of kind 1 (started), 2 (finished) or 3 (FTP), with its value.
 pub type Event = (u32, u32);
@@ -28,6 +28,7 @@ pub struct Machine {
     pub inside: u64,
     pub under: u64,
     pub over: u64,
+    pub unread: u64,
     sum: u64,
     test_time: u64,
     rest: u64,
@@ -54,6 +55,7 @@ impl Machine {
             inside: 0,
             under: 0,
             over: 0,
+            unread: 0,
             sum: 0,
             test_time: 0,
             rest: 0,
@@ -153,14 +155,17 @@ impl Machine {
         (count > 0).then(|| (present.iter().sum::<u32>() + count / 2) / count)
     }
 
-    /// "with a band and its reading present": below, in or above it.
-    fn compliance(&self, step: &Step) -> Option<std::cmp::Ordering> {
-        let band = step.target.band(&self.profile, (self.time / 1_000) as u32)?;
-        let reading = match band.metric {
+    /// "for power the three-reading average, else the newest reading's".
+    fn reading(&self, metric: Metric) -> Option<u32> {
+        match metric {
             Metric::Power => self.average(),
             Metric::Heart => self.newest().heart_bpm.map(u32::from),
             Metric::Cadence => self.newest().cadence_tenths.map(|tenths| (u32::from(tenths) + 5) / 10),
-        }?;
+        }
+    }
+
+    /// Below the band, in it or above it.
+    fn compliance(&self, step: &Step, band: Band, reading: u32) -> std::cmp::Ordering {
         let (low, high, value) = match step.target {
             // "For a heart zone compliance compares zones and not the band"
             Target::HeartZone(zone) => {
@@ -169,26 +174,40 @@ impl Machine {
             }
             _ => (u32::from(band.low), u32::from(band.high), reading),
         };
-        Some(if value < low {
+        if value < low {
             std::cmp::Ordering::Less
         } else if value > high {
             std::cmp::Ordering::Greater
         } else {
             std::cmp::Ordering::Equal
-        })
+        }
+    }
+
+    /// "with a band and its reading present .. one to targeted and one to in, under or over"; document 02, g: "a band stood, its
+    /// reading was absent".
+    fn tally(&mut self, step: &Step) {
+        let Some(band) = step.target.band(&self.profile, (self.time / 1_000) as u32) else { return };
+        let Some(reading) = self.reading(band.metric) else {
+            self.unread += 1;
+            return;
+        };
+        self.targeted += 1;
+        match self.compliance(step, band, reading) {
+            std::cmp::Ordering::Less => self.under += 1,
+            std::cmp::Ordering::Equal => self.inside += 1,
+            std::cmp::Ordering::Greater => self.over += 1,
+        }
+    }
+
+    /// Whole percent of targeted, a half up; none without targeted time. In tallies of a week no sum comes past 64 bits.
+    pub fn in_target_pct(&self) -> Option<u64> {
+        (self.targeted > 0).then(|| (100 * self.inside + self.targeted / 2) / self.targeted)
     }
 
     /// "Each millisecond, unless finished".
     fn millisecond(&mut self) {
         let step = self.steps[self.position];
-        if let Some(compliance) = self.compliance(&step) {
-            self.targeted += 1;
-            match compliance {
-                std::cmp::Ordering::Less => self.under += 1,
-                std::cmp::Ordering::Equal => self.inside += 1,
-                std::cmp::Ordering::Greater => self.over += 1,
-            }
-        }
+        self.tally(&step);
         self.time += 1;
         let power = self.newest().power_watts.unwrap_or(0);
         match self.test.filter(|_| step.intensity == Intensity::Test) {

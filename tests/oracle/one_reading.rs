@@ -1,17 +1,17 @@
 //! Document 02's request n, 'What one reading can do': pairs of lists of calls that differ in one read, its power d watts higher in
-//! the second, in `Twenty` workouts with one played test step, without distance steps and ramp targets. The FTP of a list is that of
-//! the Rattle's player of crate `compare_cut`, from a static library, of document 01's millisecond machine (machine.rs) and of the
-//! altered Rust (cut.rs), which must agree. T, the milliseconds ridden in the test step, and t, those of them ridden while that
-//! reading was the latest, are counted here, apart from all three; so are the sums of watts, which must differ by d × t and, over T,
-//! give the FTPs. Where both lists have an FTP, the second's must not be lower, and must exceed the first's by at most d × t / T
-//! rounded up. Cases by hand have their FTPs, d, t, T and the bound written down; those in workouts that the request leaves out show
-//! that it is false there. Words: how many random pairs, and the seed. Writes how many had two FTPs, how many met the bound, and of
-//! what kinds they were. Fails on a fault, and where a kind, a bound above 0 that is met or one that rounded down would be broken
-//! wasn't met.
+//! the second, in `Twenty` workouts with one played test step, without distance steps and ramp targets. The FTP of a list is that
+//! of the Rattle's player of crate `compare_cut`, from a static library, of document 01's millisecond machine (machine.rs) and of
+//! the altered Rust (cut.rs), which must agree after each call in all words, unread among them. T, the milliseconds ridden in the
+//! test step, and t, those of them ridden while that reading was the latest, are counted here, apart from all three; so are the
+//! sums of watts, which must differ by d × t and, over T, give the FTPs. Where both lists have an FTP, the second's must not be
+//! lower, and must exceed the first's by at most d × t / T rounded up. Cases by hand have their FTPs, d, t, T and the bound written
+//! down; those in workouts that the request leaves out show that it is false there. Words: how many random pairs, and the seed.
+//! Writes how many had two FTPs, how many met the bound, and of what kinds they were. Fails on a fault, and where a kind, a bound
+//! above 0 that is met, one that rounded down would be broken, or a call with something unread wasn't met.
 mod cut;
 mod machine;
 
-use cut::{Beside, Call, EXACT, Lent, MOST, feed, machine_words, ours, places_of, words_of};
+use cut::{Beside, Call, EXACT, Lent, MOST, UNREAD, feed, machine_words, ours, places_of, words_of};
 use inputs::Random;
 use machine::Machine;
 use players::{Altered, Amount, DEFAULT, test_steps};
@@ -40,11 +40,13 @@ impl Pair {
         calls
     }
 
-    /// The FTP of a list of calls, or what was refused or where the three differ.
-    fn ftp(&self, calls: &[Call]) -> Result<Option<u32>, String> {
+    /// The FTP of a list of calls, and after how many of them something was unread; or what was refused or where the three differ.
+    fn ftp(&self, calls: &[Call]) -> Result<(Option<u32>, u64), String> {
         let mut machine = Machine::new(&self.workout, self.profile);
         let mut altered = Beside::<Altered>::new(&self.workout);
         let mut list = Vec::new();
+        // After each call: the calls of the Rattle's list, and the machine's words.
+        let mut fed = Vec::new();
         for (i, call) in calls.iter().enumerate() {
             let places = places_of(call, &machine);
             list.extend(words_of(call, places, &self.profile));
@@ -53,28 +55,36 @@ impl Pair {
                 return Err(format!("call {i}: refused {numbers:?} by the machine"));
             }
             altered.play(call, &numbers, &self.profile);
+            let (words, rust) = (machine_words(&machine), altered.words());
+            if rust != words {
+                return Err(format!("call {i}: machine {words:?}, altered Rust {rust:?}"));
+            }
+            fed.push((list.len(), words));
         }
         let answers = ours(&codec::encode(&self.workout), &list);
         if let Some(at) = answers.iter().position(|words| words[0] != 0) {
             return Err(format!("after {at} calls: refused {} by the Rattle", answers[at][0]));
         }
-        let (rattle, words, rust) = (&answers[list.len()][1..], machine_words(&machine), altered.words());
-        if rattle != words || rust != words {
-            return Err(format!("Rattle {rattle:?}, machine {words:?}, altered Rust {rust:?}"));
+        for (i, (at, words)) in fed.iter().enumerate() {
+            if answers[*at][1..] != *words {
+                return Err(format!("call {i}: Rattle {:?}, machine {words:?}", &answers[*at][1..]));
+            }
         }
-        Ok(words[FTP].checked_sub(1))
+        let unread = fed.iter().filter(|(_, words)| words[UNREAD] > 0).count() as u64;
+        Ok((machine_words(&machine)[FTP].checked_sub(1), unread))
     }
 
-    /// Both FTPs, and what is counted of each list: the same but for the sum of watts.
-    fn play(&self) -> Result<([Option<u32>; 2], [Count; 2]), String> {
+    /// Both FTPs, what is counted of each list, the same but for the sum of watts, and the calls after which something was unread.
+    fn play(&self) -> Result<([Option<u32>; 2], [Count; 2], u64), String> {
         let second = self.second();
-        let ftps = [self.ftp(&self.calls)?, self.ftp(&second)?];
+        let given = [self.ftp(&self.calls)?, self.ftp(&second)?];
         let counts = [&self.calls, &second].map(|calls| count(&self.workout, calls, self.at));
         let more = u64::from(self.d) * counts[0].latest_ms;
         if counts[1] != (Count { sum: counts[0].sum + more, ..counts[0] }) {
             return Err(format!("counted {counts:?}"));
         }
-        Ok((ftps, counts))
+        let [(_, unread), (_, unread_too)] = given;
+        Ok((given.map(|(ftp, _)| ftp), counts, unread + unread_too))
     }
 
     fn show(&self, fault: &str) {
@@ -275,14 +285,19 @@ struct Tally {
     met_above_0: u64,
     above_rounded_down: u64,
     kinds: [u64; KINDS.len()],
+    /// Calls of random lists after which something was unread.
+    unread: u64,
 }
 
 impl Tally {
     fn pair(&mut self, pair: &Pair) {
         self.pairs += 1;
         let fault = match pair.play() {
-            Ok(([Some(first), Some(second)], counts)) => self.hold(pair, [first, second].map(u64::from), &counts),
-            Ok(_) => None,
+            Ok((ftps, counts, unread)) => {
+                self.unread += unread;
+                let both = ftps[0].zip(ftps[1]).map(|(first, second)| [first, second].map(u64::from));
+                both.and_then(|ftps| self.hold(pair, ftps, &counts))
+            }
             Err(fault) => {
                 self.different += 1;
                 Some(fault)
@@ -324,7 +339,7 @@ impl Tally {
         let profile = TrainingProfile { ftp_watts: 250, lthr_bpm: 160 };
         let pair = Pair { workout, profile, calls: calls.to_vec(), at, d: wanted.d };
         self.cases += 1;
-        let given = pair.play().and_then(|(ftps, [count, _])| {
+        let given = pair.play().and_then(|(ftps, [count, _], _)| {
             let [Some(first), Some(second)] = ftps else { return Err(format!("FTPs {ftps:?}")) };
             let bound = count.bound(pair.d);
             let is = u64::from(second).cmp(&(u64::from(first) + bound));
@@ -337,7 +352,7 @@ impl Tally {
     }
 
     fn missing(&self) -> bool {
-        self.met_above_0 == 0 || self.above_rounded_down == 0 || self.kinds.contains(&0)
+        self.met_above_0 == 0 || self.above_rounded_down == 0 || self.kinds.contains(&0) || self.unread == 0
     }
 }
 
@@ -683,8 +698,11 @@ fn main() {
     );
     let kinds: Vec<String> = KINDS.iter().zip(tally.kinds).map(|(kind, met)| format!("{kind}: {met}")).collect();
     println!("{}", kinds.join("; "));
+    println!("calls of these pairs with unread above 0: {}", tally.unread);
     if tally.missing() {
-        println!("a kind of pair, a bound above 0 that is met or one that rounded down would be broken wasn't met");
+        println!(
+            "a kind of pair, a bound above 0 that is met, one that rounded down would be broken, or a call with unread wasn't met"
+        );
     }
     std::process::exit((tally.wrong > 0 || tally.faulty > 0 || tally.missing()).into());
 }

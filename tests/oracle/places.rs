@@ -44,7 +44,8 @@ const EVENTS: usize = 1;
 const PARTS: usize = 2;
 const CHECK: usize = 3;
 const EXTENDED: usize = 4;
-const SUMMARY: Range<usize> = 5..16;
+/// Unread stands behind the others.
+const SUMMARY: Range<usize> = 5..17;
 const STEPS_DONE: usize = 11;
 const FINISHED: usize = 14;
 

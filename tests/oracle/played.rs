@@ -14,11 +14,12 @@
 //! | group | words |
 //! | --- | --- |
 //! | 0 | refusal of the call (0 accepted; of `new` at first), events, parts, check word of the events, 1 if `extend` extended; `summary`: refusal, targeted, in, under, over, FTP, steps done, steps, skipped, finished; `in_target_pct` |
-//! | 1 | `remaining_secs`: refusal, 1 if there is a number, the number; `distance_step`: refusal, 1 or 0; `until_end` of the call's ms and mm: refusal, ms, mm; the band of `now` in four words |
+//! | 1 | the summary's unread; `remaining_secs`: refusal, 1 if there is a number, the number; `distance_step`: refusal, 1 or 0; `until_end` of the call's ms and mm: refusal, ms, mm; the band of `now` in four words |
 //! | 2 | `now`: refusal, position, steps, ramp watts, reading, compliance (0 none, 1 under, 2 in, 3 over), left (0 seconds, 1 metres, 2 open), its number, progress, test (0 none, 1 average, 2 best minute), its number, the step on now and the next one, as in the playing order |
 //! | 3, 4 | those two steps, 13 words each |
 //!
-//! An absent FTP, percentage, ramp or reading is 0, else one more than the number. The Rust asks nothing of a player or its
+//! An absent FTP, percentage, ramp or reading is 0, else one more than the number. Unread, document 02's request g, isn't the Rust's:
+//! it is counted here over the parts of each ride, by the Rust's `now` before each (players.rs). The Rust asks nothing of a player or its
 //! arguments, so document 01's questions 10 to 13 and 15 are asked here; 14 and 20 aren't reached. A file that is refused
 //! leaves a player of the empty workout, which is refused 6 by `new` and doesn't stand.
 use players::{Altered, Amount, DEFAULT, Extra, Judge, LONG, Player, Unchanged};
@@ -105,6 +106,9 @@ pub struct Met {
     /// Parts ridden in a step of each length and each target.
     pub lengths: [u64; 3],
     pub targets: [u64; 8],
+    /// Those of them under a band without its reading.
+    pub unread_lengths: [u64; 3],
+    pub unread_targets: [u64; 8],
     pub failed_ramps: u64,
     pub finished: u64,
     /// Lists of a file that is refused.
@@ -154,6 +158,8 @@ impl Met {
             of("event", &self.events),
             of("length", &self.lengths),
             of("target", &self.targets),
+            of("length without a reading", &self.unread_lengths),
+            of("target 1 to 7 without its reading, place", &self.unread_targets[1..]),
             of("failed ramp, finish, more than 16 events, place", &rest),
             of("list judged by the unchanged Rust in all words, in all but FTP, place", &self.lists_by[..2]),
             of("FTP in such a list, place", &self.ftps_by[..2]),
@@ -163,16 +169,18 @@ impl Met {
     }
 }
 
-/// What a call gave.
+/// What a call gave; the milliseconds that it rode under a band, and those of them without a reading.
 struct Given {
     number: u32,
     events: Vec<Event>,
     parts: u32,
     extended: bool,
+    banded: u64,
+    unread: u64,
 }
 
 fn nothing(number: u32) -> Given {
-    Given { number, events: Vec::new(), parts: 0, extended: false }
+    Given { number, events: Vec::new(), parts: 0, extended: false, banded: 0, unread: 0 }
 }
 
 fn event_words(event: Event) -> (u32, u32) {
@@ -200,7 +208,7 @@ fn update_refused(call: &Call) -> bool {
 }
 
 /// A list being played. `add` is the Rust's own where its events have room, so a second player goes along, on which it is
-/// composed first.
+/// composed first; what is unread is counted on that one.
 struct List<P> {
     player: P,
     second: P,
@@ -208,6 +216,8 @@ struct List<P> {
     total_ms: u64,
     total_mm: u64,
     extra: Extra,
+    banded: u64,
+    unread: u64,
 }
 
 impl<P: Player> List<P> {
@@ -219,6 +229,8 @@ impl<P: Player> List<P> {
             total_ms: 0,
             total_mm: 0,
             extra: Extra::default(),
+            banded: 0,
+            unread: 0,
         }
     }
 
@@ -287,6 +299,10 @@ impl<P: Player> List<P> {
             met.events[event_words(event).0 as usize] += 1;
         }
         met.finished += u64::from(given.events.contains(&Event::Finished));
+        self.banded += given.banded;
+        self.unread += given.unread;
+        // "Targeted plus unread is then all time ridden under a band."
+        assert_eq!(self.player.summary().targeted_ms + self.unread, self.banded);
         given
     }
 
@@ -318,15 +334,16 @@ impl<P: Player> List<P> {
         let mut groups = [[0; GROUP]; WORDS / GROUP];
         let player = &self.player;
         groups[0] = given_words(given, 0, player.summary());
+        groups[1][0] = self.unread as u32;
         let secs = player.remaining_secs();
-        groups[1][1] = secs.is_some().into();
-        groups[1][2] = secs.unwrap_or(0);
-        groups[1][4] = player.distance_step().into();
+        groups[1][2] = secs.is_some().into();
+        groups[1][3] = secs.unwrap_or(0);
+        groups[1][5] = player.distance_step().into();
         if update_refused(call) {
-            groups[1][5] = 12;
+            groups[1][6] = 12;
         } else {
             let (ms, mm) = player.until_end(call.ms.into(), call.mm.into());
-            groups[1][6..8].copy_from_slice(&[ms as u32, mm as u32]);
+            groups[1][7..9].copy_from_slice(&[ms as u32, mm as u32]);
         }
         let profile = call.profile();
         if profile_refused(&profile) {
@@ -343,6 +360,7 @@ fn ride(player: &mut impl Player, call: &Call, sample: &Sample, met: &mut Met) -
     let profile = call.profile();
     let (mut ms, mut mm) = (u64::from(call.ms), u64::from(call.mm));
     let (mut events, mut parts) = (Vec::new(), 0);
+    let (mut banded, mut unread) = (0, 0);
     if ms > 0 {
         for _ in 0..=MAX_PLAYED {
             if player.done() || ms == 0 {
@@ -353,16 +371,22 @@ fn ride(player: &mut impl Player, call: &Call, sample: &Sample, met: &mut Met) -
             let (part_ms, part_mm) = player.until_end(ms, mm);
             ms -= part_ms;
             mm -= part_mm;
+            let unread_ms = player.unread(part_ms, &profile);
             events.extend(player.ride_part(part_ms, part_mm, sample, &profile));
             parts += 1;
+            banded += if on.target == Target::Free { 0 } else { part_ms };
+            unread += unread_ms;
             let words = step_words(&on);
-            met.lengths[words[1] as usize] += 1;
-            met.targets[words[3] as usize] += 1;
+            let [length, target] = [words[1] as usize, words[3] as usize];
+            met.lengths[length] += 1;
+            met.targets[target] += 1;
+            met.unread_lengths[length] += u64::from(unread_ms > 0);
+            met.unread_targets[target] += u64::from(unread_ms > 0);
             met.failed_ramps += u64::from(on.length == Length::Open && player.summary().steps_done != done);
         }
     }
     met.many_events += u64::from(events.len() > EVENTS);
-    Given { parts, events, ..nothing(0) }
+    Given { parts, events, banded, unread, ..nothing(0) }
 }
 
 fn optional(number: Option<u16>) -> u32 {
@@ -407,7 +431,7 @@ fn now_words(now: &Now, groups: &mut [[u32; GROUP]; WORDS / GROUP]) {
         Some(TestReadout::Average(watts)) => (1, watts),
         Some(TestReadout::BestMinute(watts)) => (2, watts),
     };
-    groups[1][8..12].copy_from_slice(&band_words(now.band));
+    groups[1][9..13].copy_from_slice(&band_words(now.band));
     groups[2][..13].copy_from_slice(&[
         0,
         now.position.into(),
@@ -447,7 +471,7 @@ fn no_now(number: u32, groups: &mut [[u32; GROUP]; WORDS / GROUP]) {
 fn fallen(number: u32) -> Vec<u32> {
     let mut groups = [[0; GROUP]; WORDS / GROUP];
     groups[0] = given_words(&nothing(number), 20, Summary::default());
-    for place in [0, 3, 5] {
+    for place in [1, 4, 6] {
         groups[1][place] = 20;
     }
     no_now(20, &mut groups);

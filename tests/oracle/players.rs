@@ -1,7 +1,8 @@
 //! The Rust's player by one trait, in two forms: unchanged, whose `extend` knows no amount but its own 60 s and 500 m and whose test
 //! numbers run on from step to step, and altered, whose `extend_by` takes any amount and whose test numbers begin empty in each
 //! step (crate `vana_by`). What they give is told in the types of the unchanged one. Beside them the amounts of document 02's
-//! request i, question 15, which neither asks, and which workouts request d still compares with the unchanged one for FTP.
+//! request i, question 15, which neither asks, which workouts request d still compares with the unchanged one for FTP, and request
+//! g's unread, which neither counts.
 use vana::ride::{log::Sample, zones::TrainingProfile};
 use vana::workout::model::{Intensity, Length, Workout};
 pub use vana::workout::player::Player as Unchanged;
@@ -102,6 +103,13 @@ pub trait Player {
     fn remaining_secs(&self) -> Option<u32>;
     fn distance_step(&self) -> bool;
     fn summary(&self) -> Summary;
+
+    /// What a part, ridden next, adds to unread, by document 02's request g: all of it where "a band stood, its reading was absent".
+    /// The Rust has no such count, so this is asked of its `now` before the part.
+    fn unread(&self, part_ms: u64, profile: &TrainingProfile) -> u64 {
+        let now = self.now(profile);
+        if now.band.is_some() && now.reading.is_none() { part_ms } else { 0 }
+    }
 }
 
 macro_rules! player {

@@ -1,15 +1,18 @@
-//! Writes crates/history/specs/Samples.antt: some rides (`inputs::records::samples`) with the bytes that the Rust writes for each, and
-//! some bytes with what it reads of them.
+//! Writes crates/history/specs/Samples.antt: some rides (`inputs::records::samples`) with the bytes of each by the model there, and
+//! some bytes with what the Rust reads of them and what the model reads as unread. The Rust writes version 1, so of the model's
+//! bytes it is asked that the Rust's `decode` shows every field that it knows at the right value.
 extern crate vana;
 
-use inputs::records::{read_samples, samples};
-use vana::workout::history::{decode, encode};
+use inputs::records::{read_samples, samples, shown, unread_in};
+use vana::workout::history::decode;
 use vana::workout::model::Test;
 use vana::workout::player::Summary;
 
 const HEAD: &str = "\
--- Some rides with the bytes that the Rust's `encode` writes for them, and some bytes with what its `decode` reads: written by
--- tests/oracle/record_samples.rs, compared by tests/oracle/run. The definitions are held against these, since the Rust is outside the proof.
+-- Some rides with their bytes by document 02's g, of which the Rust's `decode` shows every field that it knows at the right value; and
+-- some bytes with what its `decode` reads of them and what g reads as unread. `read-9` is what the Rust's `encode` wrote itself, version 1.
+-- Written by tests/oracle/record_samples.rs, compared by tests/oracle/run. The definitions are held against these, since the Rust is
+-- outside the proof.
 use mathlib.Core.Path.{_≡_}
 use mathlib.Core.Bool.{Bool, true, false}
 use mathlib.Core.List.{List, [], _∷_, _++_}
@@ -22,14 +25,15 @@ use Rattle.state.specs.declared.Summary.{Summary}
 use Rattle.history.specs.Record.{recordOf, recordBytes}
 use Rattle.history.specs.Decode.{noRecord, readAs, decodeOf}
 
--- steps done, steps, skipped; targeted, in, under, over; finished; FTP
-abbrev pub summaryOf : ℕ → ℕ → ℕ → ℕ → ℕ → ℕ → ℕ → Bool → ReadingOption → Summary
-summaryOf done steps skipped targeted inside under over finished measured =
+-- steps done, steps, skipped; targeted, in, under, over, unread; finished; FTP
+abbrev pub summaryOf : ℕ → ℕ → ℕ → ℕ → ℕ → ℕ → ℕ → ℕ → Bool → ReadingOption → Summary
+summaryOf done steps skipped targeted inside under over unread finished measured =
     record {
       «targeted_ms» = targeted;
       «in_ms» = inside;
       «under_ms» = under;
       «over_ms» = over;
+      «unread_ms» = unread;
       ftp = measured;
       «steps_done» = done;
       steps = steps;
@@ -51,7 +55,7 @@ fn rows(bytes: &[u8]) -> String {
 }
 
 /// A record as `recordOf` makes it.
-fn made(name: &[u8], test: Option<Test>, s: &Summary, ride: (u8, u32, u64, bool)) -> String {
+fn made(name: &[u8], test: Option<Test>, s: &Summary, unread: u64, ride: (u8, u32, u64, bool)) -> String {
     let test = match test {
         None => "tests.None",
         Some(Test::Twenty) => "tests.Twenty",
@@ -60,7 +64,7 @@ fn made(name: &[u8], test: Option<Test>, s: &Summary, ride: (u8, u32, u64, bool)
     let ftp = s.ftp.map_or("ftp.None".to_string(), |watts| format!("(ftp.Some {watts})"));
     let (journal, id, start, dated) = ride;
     format!(
-        "(recordOf (nameOf ({})) {test}\n      (summaryOf {} {} {} {} {} {} {} {} {ftp}) {journal} {id} {start} {dated})",
+        "(recordOf (nameOf ({})) {test}\n      (summaryOf {} {} {} {} {} {} {} {unread} {} {ftp}) {journal} {id} {start} {dated})",
         list(name),
         s.steps_done,
         s.steps,
@@ -77,7 +81,7 @@ fn read(bytes: &[u8]) -> String {
     decode(bytes).map_or("noRecord".to_string(), |record| {
         let start = record.started_utc_ms;
         let ride = (record.journal, record.ride_id, start.unwrap_or(0), start.is_some());
-        format!("readAs\n      {}", made(record.name.as_bytes(), record.test, &record.summary, ride))
+        format!("readAs\n      {}", made(record.name.as_bytes(), record.test, &record.summary, unread_in(bytes), ride))
     })
 }
 
@@ -85,8 +89,10 @@ fn main() {
     println!("{HEAD}");
     for (i, sample) in samples().iter().enumerate() {
         let ride = (sample.journal, sample.id, sample.start, sample.dated);
-        let record = made(sample.name.as_bytes(), sample.test, &sample.summary, ride);
-        println!("  pub written-{i} : recordBytes\n      {record}\n      ≡ {}", rows(&encode(&sample.record())));
+        let record = made(sample.name.as_bytes(), sample.test, &sample.summary, sample.unread, ride);
+        let bytes = sample.bytes();
+        assert_eq!(decode(&bytes), Some(shown(&sample.record())), "the Rust shows another value of sample {i}");
+        println!("  pub written-{i} : recordBytes\n      {record}\n      ≡ {}", rows(&bytes));
     }
     for (i, bytes) in read_samples().iter().enumerate() {
         println!("  pub read-{i} : decodeOf\n      ({})\n      ≡ {}", rows(bytes), read(bytes));

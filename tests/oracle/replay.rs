@@ -2,8 +2,8 @@
 //! static library, on replays at limits and on random ones. Words: how many random ones with extends of kind 4 alone, which the
 //! unchanged Rust has, and the seed; half as many besides mix kinds 4 and 5. Compares the refusal, its act and every byte lent,
 //! with some bytes behind those. Writes how many were compared, with which Rust, and what was met. Fails where something differs,
-//! where the unchanged Rust differs from the altered one in more than FTP, where a refusal, a kind or an FTP of either Rust wasn't
-//! met, and where fewer than half are accepted.
+//! where the unchanged Rust differs from the altered one in more than FTP, where a refusal, a kind, an FTP of either Rust or a record
+//! with unread wasn't met, and where fewer than half are accepted.
 use inputs::Random;
 use replays::{Answer, Met, Replay, answer, limit_replays, mixed_replay, random_replay};
 
@@ -121,6 +121,7 @@ fn main() {
         "accepted: finished (no, yes) {:?}, FTP (twenty, ramp) {:?}, dated (no, yes) {:?}, sheets of 1 and of 4,096 acts {:?}",
         met.finished, met.measured, met.dated, met.acts_limits
     );
+    println!("records with unread above 0 (nothing targeted, targeted too): {:?}", met.unread);
     let missing = met.missing();
     if !missing.is_empty() {
         println!("not met: {missing:?}");

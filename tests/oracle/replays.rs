@@ -1,18 +1,19 @@
-//! Document 01's ride sheet and replay, with document 02's kind 5, as a model over the Rust's `decode`, player and `encode`; and
-//! replays to try it on, at limits and random ones from a seed. The Rust has neither a sheet nor the questions 10 to 17 and 19, so
-//! these are asked here, as the paper's sentences have them. A sheet without kind 5 is played by the unchanged Rust, whose `extend`
-//! is kind 4; one with it by the altered Rust (players.rs). Of a workout with more than one played test step the record is the
-//! altered Rust's, and the unchanged one's is to be the same but for FTP.
+//! Document 01's ride sheet and replay, with document 02's kind 5 and unread, as a model over the Rust's `decode` and player and
+//! the record's bytes of records.rs; and replays to try it on, at limits and random ones from a seed. The Rust has neither a sheet
+//! nor the questions 10 to 17 and 19, so these are asked here, as the paper's sentences have them. A sheet without kind 5 is played
+//! by the unchanged Rust, whose `extend` is kind 4; one with it by the altered Rust (players.rs). Of a workout with more than one
+//! played test step the record is the altered Rust's, and the unchanged one's is to be the same but for FTP.
 use inputs::Random;
 use inputs::calls::{Play, random_play};
 use inputs::files::{limit_files, longest, random_file};
 use inputs::limits;
+use inputs::records::{SIZE, shown, written};
 use played::{Call, EXTEND, EXTEND_WITH, READ, RIDE, SKIP};
 use players::{Altered, Amount, DEFAULT, Extra, Judge, LONG, Player, Unchanged};
 use std::sync::LazyLock;
 use vana::ride::{log::Sample, zones::TrainingProfile};
 use vana::workout::codec;
-use vana::workout::history::{Record, SIZE, encode};
+use vana::workout::history::{Record, decode};
 use vana::workout::model::{Block, Intensity, Length, MAX_PLAYED, Step, Target, Test, Workout};
 use vana::workout::player::Summary;
 
@@ -143,11 +144,12 @@ pub struct Met {
     /// Extends that gave `false`, and `true`: of kind 4 and of kind 5.
     pub extended: [[u64; 2]; 2],
     /// Of the accepted: not finished and finished; with an FTP from `Twenty` and from `Ramp`; not dated and dated; with the profile
-    /// alone and with `MAX_ACTS` acts.
+    /// alone and with `MAX_ACTS` acts; with unread alone, and with targeted time beside it.
     pub finished: [u64; 2],
     pub measured: [u64; 2],
     pub dated: [u64; 2],
     pub acts_limits: [u64; 2],
+    pub unread: [u64; 2],
 }
 
 impl Met {
@@ -183,6 +185,7 @@ impl Met {
         missing.extend(of("FTP of test", &self.measured));
         missing.extend(of("dated", &self.dated));
         missing.extend(of("sheet of 1 or 4,096 acts, place", &self.acts_limits));
+        missing.extend(of("unread alone, with targeted time, place", &self.unread));
         missing
     }
 }
@@ -228,7 +231,8 @@ fn act_in(first: bool, kind: u8, value: &[u8]) -> Option<Act> {
     }
 }
 
-/// A ride being replayed. The questions' totals and the extra of the step on now are counted here, since the Rust's are private.
+/// A ride being replayed. The questions' totals and the extra of the step on now are counted here, since the Rust's are private, and
+/// unread, which it hasn't.
 struct Ridden<P> {
     player: P,
     steps: Vec<Step>,
@@ -237,6 +241,7 @@ struct Ridden<P> {
     total_ms: u64,
     total_mm: u64,
     extra: Extra,
+    unread: u64,
 }
 
 impl<P: Player> Ridden<P> {
@@ -249,6 +254,7 @@ impl<P: Player> Ridden<P> {
             total_ms: 0,
             total_mm: 0,
             extra: Extra::default(),
+            unread: 0,
         }
     }
 
@@ -318,6 +324,7 @@ impl<P: Player> Ridden<P> {
             let (part_ms, part_mm) = self.player.until_end(ms, mm);
             ms -= part_ms;
             mm -= part_mm;
+            self.unread += self.player.unread(part_ms, &self.profile);
             self.player.ride_part(part_ms, part_mm, &self.sample, &self.profile);
             let length = match step.length {
                 Length::Time(_) => 0,
@@ -329,8 +336,8 @@ impl<P: Player> Ridden<P> {
     }
 }
 
-/// "Replay asks the workout first, then the sheet, then 19, then each act."
-fn record(replay: &Replay, met: &mut Met) -> Result<Record, Refused> {
+/// "Replay asks the workout first, then the sheet, then 19, then each act." The record and its unread.
+fn record(replay: &Replay, met: &mut Met) -> Result<(Record, u64), Refused> {
     let Ok(workout) = codec::decode(&replay.workout) else {
         return Err((questions::answer(questions::FILE, &replay.workout)[0], NO_ACT));
     };
@@ -338,13 +345,16 @@ fn record(replay: &Replay, met: &mut Met) -> Result<Record, Refused> {
     if replay.room < SIZE {
         return Err((19, NO_ACT));
     }
-    let record = |summary| Record {
-        journal: replay.journal,
-        ride_id: replay.id,
-        started_utc_ms: (replay.dated != 0).then_some(replay.start),
-        name: workout.name,
-        test: workout.test,
-        summary,
+    let record = |(summary, unread)| {
+        let record = Record {
+            journal: replay.journal,
+            ride_id: replay.id,
+            started_utc_ms: (replay.dated != 0).then_some(replay.start),
+            name: workout.name,
+            test: workout.test,
+            summary,
+        };
+        (record, unread)
     };
     let judge = Judge::of(&workout, !acts.iter().any(|act| matches!(act, Act::Extend)));
     met.sheets[judge as usize] += 1;
@@ -354,28 +364,23 @@ fn record(replay: &Replay, met: &mut Met) -> Result<Record, Refused> {
     };
     if judge == Judge::Both {
         let unchanged = ridden::<Unchanged>(&workout, &acts, &mut Met::default()).map(record);
-        let same = given.map(|record| but_for_ftp(&record)) == unchanged.map(|record| but_for_ftp(&record));
+        let same = given.map(but_for_ftp) == unchanged.map(but_for_ftp);
         assert!(same, "the unchanged Rust differs in more than FTP: {given:?} and {unchanged:?}");
         met.pooled += u64::from(given != unchanged);
     }
     let given = given?;
-    met.measured_by[judge as usize] += u64::from(given.summary.ftp.is_some());
+    met.measured_by[judge as usize] += u64::from(given.0.summary.ftp.is_some());
     met.acts_limits[0] += u64::from(acts.len() == 1);
     met.acts_limits[1] += u64::from(acts.len() == MAX_ACTS);
     Ok(given)
 }
 
-/// The bytes of a record without the FTP's flag, its two bytes and the check word, which are its last.
-fn but_for_ftp(record: &Record) -> Vec<u8> {
-    const FLAGS: usize = 7;
-    const MEASURED: u8 = 4;
-    const FTP: usize = 64;
-    let mut bytes = encode(record);
-    bytes[FLAGS] &= !MEASURED;
-    bytes[..FTP].to_vec()
+/// A record and its unread without the FTP.
+fn but_for_ftp((record, unread): (Record, u64)) -> (Record, u64) {
+    (Record { summary: Summary { ftp: None, ..record.summary }, ..record }, unread)
 }
 
-fn ridden<P: Player>(workout: &Workout, acts: &[Act], met: &mut Met) -> Result<Summary, Refused> {
+fn ridden<P: Player>(workout: &Workout, acts: &[Act], met: &mut Met) -> Result<(Summary, u64), Refused> {
     let mut ridden = Ridden::<P>::new(workout);
     for (i, act) in acts.iter().enumerate() {
         match ridden.refusal(act) {
@@ -383,24 +388,29 @@ fn ridden<P: Player>(workout: &Workout, acts: &[Act], met: &mut Met) -> Result<S
             number => return Err((number, i as u32)),
         }
     }
-    Ok(ridden.player.summary())
+    Ok((ridden.player.summary(), ridden.unread))
 }
 
-/// What document 01 has of a replay.
+/// What documents 01 and 02 have of a replay.
 pub fn answer(replay: &Replay, met: &mut Met) -> Answer {
     match record(replay, met) {
         Err((refusal, act)) => {
             met.refused[refusal as usize] += 1;
             Answer { refusal, act, record: [0; SIZE], summary: None }
         }
-        Ok(record) => {
+        Ok((record, unread)) => {
             met.refused[0] += 1;
             met.finished[usize::from(record.summary.finished)] += 1;
             met.dated[usize::from(record.started_utc_ms.is_some())] += 1;
             if record.summary.ftp.is_some() {
                 met.measured[usize::from(record.test == Some(Test::Ramp))] += 1;
             }
-            Answer { refusal: 0, act: NO_ACT, record: encode(&record), summary: Some(record.summary) }
+            if unread > 0 {
+                met.unread[usize::from(record.summary.targeted_ms > 0)] += 1;
+            }
+            let bytes = written(&record, unread);
+            assert_eq!(decode(&bytes), Some(shown(&record)), "the Rust shows another value of {record:?}");
+            Answer { refusal: 0, act: NO_ACT, record: bytes, summary: Some(record.summary) }
         }
     }
 }
@@ -636,7 +646,7 @@ fn question_order() -> Vec<Replay> {
     let mut replays = Vec::new();
     for workout in [first_file(), Vec::new(), longest(), [longest(), vec![0]].concat()] {
         for sheet in &sheets {
-            for room in [0, 1, 69, 70, 71, 80] {
+            for room in [0, 1, 69, 70, 73, 74, 75, 80] {
                 replays.push(Replay { room, ..replay_of(workout.clone(), sheet.clone()) });
             }
         }
@@ -763,28 +773,31 @@ fn profile(random: &mut Random) -> Act {
 }
 
 /// Readings of one rider, now and then absent or anything that isn't refused.
-fn reading(random: &mut Random, base: u32) -> Act {
+fn reading(random: &mut Random, rider: &Rider) -> Act {
     let present = |random: &mut Random, value: u32, most: u16| match random.below(10) {
-        0 => None,
-        1 => Some(one_of(random, &[0, 1, most])),
+        _ if once_in(random, rider.absent) => None,
+        0 => Some(one_of(random, &[0, 1, most])),
         _ => Some(value as u16),
     };
-    let (power, heart, cadence) = (base + random.below(60), within(random, 80, 190), within(random, 400, 1_200));
+    let (power, heart, cadence) = (rider.watts + random.below(60), within(random, 80, 190), within(random, 400, 1_200));
     let power = present(random, power, 65_535);
     let heart = present(random, heart, 65_535);
     read(power, heart, present(random, cadence, 65_530))
 }
 
-/// How a sheet is ridden: its rides are about as long, so that steps end, and few sheets come to question 13.
+/// How a sheet is ridden: its rides are about as long, so that steps end, and few sheets come to question 13. Each reading is absent
+/// once in so many; one rider in four has loose straps.
 struct Rider {
     watts: u32,
     pace: u32,
     far: bool,
+    absent: u32,
 }
 
 fn rider(random: &mut Random) -> Rider {
     let pace = if once_in(random, 25) { 6 } else { random.below(6) };
-    Rider { watts: within(random, 20, 500), pace, far: once_in(random, 12) }
+    let absent = if once_in(random, 4) { 2 } else { 10 };
+    Rider { watts: within(random, 20, 500), pace, far: once_in(random, 12), absent }
 }
 
 fn ride(random: &mut Random, rider: &Rider) -> Act {
@@ -810,7 +823,7 @@ fn act(random: &mut Random, rider: &Rider) -> Act {
     match random.below(24) {
         0 => Act::Skip,
         1 | 2 => Act::ExtendLong,
-        3..=11 => reading(random, rider.watts),
+        3..=11 => reading(random, rider),
         _ => ride(random, rider),
     }
 }
@@ -880,9 +893,8 @@ fn faulty(random: &mut Random, acts: &mut Vec<Act>, fault: u32, both: bool) {
             return;
         }
         11 => {
-            let Act::Read(sample) = reading(random, 100) else { return };
-            let cadence_tenths = Some(within(random, 65_531, 65_535) as u16);
-            vec![Act::Read(Sample { cadence_tenths, ..sample })]
+            let cadence = within(random, 65_531, 65_535) as u16;
+            vec![read(Some(100), Some(140), Some(cadence))]
         }
         12 => {
             let ms = one_of(random, &[0, 250, DAY_MS, DAY_MS + 1, u32::MAX]);
@@ -960,7 +972,8 @@ fn some_replay(random: &mut Random, both: bool) -> Replay {
         damage(random, &mut sheet);
     }
     let short = faults.contains(&19);
-    let room = if short { one_of(random, &[0, 1, 35, 66, 68, 69]) } else { one_of(random, &[70, 70, 70, 71, 74, 80]) };
+    let room =
+        if short { one_of(random, &[0, 1, 35, 66, 69, 70, 72, 73]) } else { one_of(random, &[74, 74, 74, 75, 78, 80]) };
     Replay {
         workout,
         sheet,

@@ -1,6 +1,7 @@
 -- Document 01, 'Bench sheet': "A step of 10 s at 100 to 200 W, profile 200 and 160, read 150 W, ride 10,000" from files to record and
--- line, and a ride that is refused. Written by tests/oracle/bench_ride.rs from examples/first and examples/refused, with the record that
--- the Rust writes; compared by tests/oracle/run. The definitions are held against these, since the Rust is outside the proof.
+-- line, and a ride that is refused. Written by tests/oracle/bench_ride.rs from examples/first and examples/refused: how the
+-- Rust's player rides, and the record's bytes by document 02's g. Compared by tests/oracle/run. The definitions are held against these,
+-- since the Rust is outside the proof.
 use mathlib.Core.Path.{_≡_}
 use mathlib.Core.List.{List, [], _∷_, _++_}
 use Prim.Native.Nat.{ℕ}
@@ -25,16 +26,17 @@ sheet =
     ++ ((0 ∷ 0 ∷ 0 ∷ 150 ∷ 0 ∷ 0 ∷ 0 ∷ 0 ∷ 0 ∷ 1 ∷ [])
     ++ ((0 ∷ 16 ∷ 39 ∷ 0 ∷ 0 ∷ 0 ∷ 0 ∷ 0 ∷ 0 ∷ [])))
 
--- the record that the Rust writes
+-- the record, of which the Rust reads every field that it knows
 abbrev pub stored : List ℕ
 stored =
-    (86 ∷ 87 ∷ 75 ∷ 79 ∷ 1 ∷ 66 ∷ 105 ∷ 3 ∷ 7 ∷ 0 ∷ [])
+    (86 ∷ 87 ∷ 75 ∷ 79 ∷ 2 ∷ 70 ∷ 105 ∷ 3 ∷ 7 ∷ 0 ∷ [])
     ++ ((0 ∷ 0 ∷ 0 ∷ 104 ∷ 229 ∷ 207 ∷ 139 ∷ 1 ∷ 0 ∷ 0 ∷ [])
     ++ ((5 ∷ 70 ∷ 73 ∷ 82 ∷ 83 ∷ 84 ∷ 0 ∷ 0 ∷ 0 ∷ 0 ∷ [])
     ++ ((0 ∷ 0 ∷ 0 ∷ 0 ∷ 0 ∷ 0 ∷ 0 ∷ 0 ∷ 0 ∷ 0 ∷ [])
     ++ ((0 ∷ 0 ∷ 1 ∷ 0 ∷ 1 ∷ 0 ∷ 0 ∷ 0 ∷ 16 ∷ 39 ∷ [])
     ++ ((0 ∷ 0 ∷ 16 ∷ 39 ∷ 0 ∷ 0 ∷ 0 ∷ 0 ∷ 0 ∷ 0 ∷ [])
-    ++ ((0 ∷ 0 ∷ 0 ∷ 0 ∷ 0 ∷ 0 ∷ 167 ∷ 51 ∷ 142 ∷ 62 ∷ [])))))))
+    ++ ((0 ∷ 0 ∷ 0 ∷ 0 ∷ 0 ∷ 0 ∷ 0 ∷ 0 ∷ 0 ∷ 0 ∷ [])
+    ++ ((125 ∷ 187 ∷ 180 ∷ 7 ∷ []))))))))
 
 -- `done 1 of 1 skipped 0 targeted 10000 in 10000 under 0 over 0 finished yes ftp none`
 abbrev pub line : List ℕ
@@ -71,21 +73,21 @@ refusedLine =
     (114 ∷ 101 ∷ 102 ∷ 117 ∷ 115 ∷ 101 ∷ 100 ∷ 32 ∷ 49 ∷ 50 ∷ [])
     ++ ((32 ∷ 97 ∷ 99 ∷ 116 ∷ 32 ∷ 51 ∷ 10 ∷ []))
 
--- The C call, lent the 70 bytes of a record, all of them 0: its answer, and the bytes after it. Journal `i`, id 7, a start, dated.
+-- The C call, lent the 74 bytes of a record, all of them 0: its answer, and the bytes after it. Journal `i`, id 7, a start, dated.
 abbrev pub answered : List ℕ → List ℕ → Replayed
-answered file sheet = replayedOf (replayAnswer file sheet 70)
+answered file sheet = replayedOf (replayAnswer file sheet 74)
 
 abbrev pub left : List ℕ → List ℕ → List ℕ
-left file sheet = replayOutput file sheet 105 7 1700000000000 (isYes 1) (replicate 70 0)
+left file sheet = replayOutput file sheet 105 7 1700000000000 (isYes 1) (replicate 74 0)
 
 -- The program's line.
 abbrev pub printed : List ℕ → List ℕ → List ℕ
-printed file sheet = lineOf (riddenOf file sheet 70)
+printed file sheet = lineOf (riddenOf file sheet 74)
 
 pub record BenchRide : Type 0 where
   pub accepted : answered file sheet ≡ record { refusal = 0; act = 4294967295 }
   pub record-is : left file sheet ≡ stored
   pub line-is : printed file sheet ≡ line
   pub refused : answered refusedFile refusedSheet ≡ record { refusal = 12; act = 3 }
-  pub stays : left refusedFile refusedSheet ≡ replicate 70 0
+  pub stays : left refusedFile refusedSheet ≡ replicate 74 0
   pub refused-line-is : printed refusedFile refusedSheet ≡ refusedLine

@@ -15,7 +15,7 @@ sheetWith kind byte ms =
 
 -- Whether the ride came to the step's end.
 abbrev pub isFinished : ℕ → ℕ → Bool
-isFinished kind ms = riddenOf file (sheetWith kind 0 ms) 70 .summary .finished
+isFinished kind ms = riddenOf file (sheetWith kind 0 ms) 74 .summary .finished
 
 pub record ExtendedRides : Type 0 where
   -- 10 s and 60

@@ -42,21 +42,21 @@ pub answers-cut : {ks vs ks' vs' : List ℕ} {r : Update} {o : Called} (check : 
 answers-cut check k v a = rw (k, v) (simp (a .answer, a .player, a .parts, a .wrote .count, a .wrote .kinds, a .wrote .values, zero-add))
 
 -- the call that comes after word i is played before word i + 1
-pub cut-next : (file calls : List ℕ) (i : ℕ) → nextCut calls (cutAfter file calls (i / 11)) i ≡ cutAfter file calls ((i + 1) / 11)
+pub cut-next : (file calls : List ℕ) (i : ℕ) → nextCut calls (cutAfter file calls (i / 13)) i ≡ cutAfter file calls ((i + 1) / 13)
 unfolding nextCut cutAfter
-cut-next file calls i = at (eqb (i % 11) 10) refl
+cut-next file calls i = at (eqb (i % 13) 12) refl
   where
-    over : (i : ℕ) → i % 11 ≡ 10 → suc (i / 11) ≡ (i + 1) / 11
+    over : (i : ℕ) → i % 13 ≡ 12 → suc (i / 13) ≡ (i + 1) / 13
     over i e = omega arith
 
-    within : (i : ℕ) → (i % 11 ≡ 10 → ⊥) → i / 11 ≡ (i + 1) / 11
+    within : (i : ℕ) → (i % 13 ≡ 12 → ⊥) → i / 13 ≡ (i + 1) / 13
     within i e = omega arith
 
-    at : (t : Bool) → eqb (i % 11) 10 ≡ t
-        → cond t (turnedCut calls (cutAfter file calls (i / 11)) (i / 11)) (cutAfter file calls (i / 11)) ≡ cutAfter file calls ((i + 1) / 11)
-    at true e = ap (cutAfter file calls) (over i (eqb-true (i % 11) 10 e))
-    at false e = ap (cutAfter file calls) (within i (eqb-false (i % 11) 10 e))
+    at : (t : Bool) → eqb (i % 13) 12 ≡ t
+        → cond t (turnedCut calls (cutAfter file calls (i / 13)) (i / 13)) (cutAfter file calls (i / 13)) ≡ cutAfter file calls ((i + 1) / 13)
+    at true e = ap (cutAfter file calls) (over i (eqb-true (i % 13) 12 e))
+    at false e = ap (cutAfter file calls) (within i (eqb-false (i % 13) 12 e))
 
-pub word-after : (file calls : List ℕ) (i : ℕ) (seen : Seen) → seen ≡ cutAfter file calls (i / 11) → cutWord seen (i % 11) ≡ wordAfter file calls i
+pub word-after : (file calls : List ℕ) (i : ℕ) (seen : Seen) → seen ≡ cutAfter file calls (i / 13) → cutWord seen (i % 13) ≡ wordAfter file calls i
 unfolding wordAfter
-word-after file calls i seen e = ap (λ (s : Seen). cutWord s (i % 11)) e
+word-after file calls i seen e = ap (λ (s : Seen). cutWord s (i % 13)) e

@@ -98,14 +98,14 @@ unfoldable pub cutAfter : List ℕ → List ℕ → ℕ → Seen
 cutAfter file calls zero = begun file calls
 cutAfter file calls (suc k) = turnedCut calls (cutAfter file calls k) k
 
--- the next call is played after the last of 11 words
+-- the next call is played after the last of 13 words
 unfoldable pub nextCut : List ℕ → Seen → ℕ → Seen
-nextCut calls seen i = cond (eqb (i % 11) 10) (turnedCut calls seen (i / 11)) seen
+nextCut calls seen i = cond (eqb (i % 13) 12) (turnedCut calls seen (i / 13)) seen
 
--- the call's refusal, the check word so far, and the summary from its targeted time on
+-- the call's refusal, the check word so far, and the summary from its targeted time on, with `in_target_pct` and unread
 unfoldable pub cutWord : Seen → ℕ → ℕ
 cutWord seen place = getD (seen .given .number ∷ seen .given .check ∷ []) place (seenWord (seen .given) (seen .reported) (place + 4))
 
 -- the words of the fresh player, then those after each call
 unfoldable pub wordAfter : List ℕ → List ℕ → ℕ → ℕ
-wordAfter file calls i = cutWord (cutAfter file calls (i / 11)) (i % 11)
+wordAfter file calls i = cutWord (cutAfter file calls (i / 13)) (i % 13)

@@ -134,20 +134,20 @@ fn take_turn(calls: &[u8], k: u32, seen: Seen) -> Seen
     look(play(player, call, given.check), call)
 }
 
-// After the last of the 11 words the next call is played.
+// After the last of the 13 words the next call is played.
 fn next_cut(calls: &[u8], seen: Seen, i: usize) -> Seen
     requires { ⌜ i ≤ 137000 ⌝ }
     ensures { λ r. ⌜ r ≡ nextCut (now (calls .entry)) seen i ⌝ }
 {
-    if i % 11 == 10 {
-        return take_turn(calls, (i / 11) as u32, seen);
+    if i % 13 == 12 {
+        return take_turn(calls, (i / 13) as u32, seen);
     }
     seen
 }
 
 // The call's refusal, the check word so far, and the summary from its targeted time on.
 fn cut_word(seen: Seen, place: u32) -> u32
-    requires { ⌜ place ≤ 10 ⌝ }
+    requires { ⌜ place ≤ 12 ⌝ }
     ensures { λ r. ⌜ r ≡ cutWord seen place ⌝ }
 {
     let given = seen.given;
@@ -159,7 +159,7 @@ fn cut_word(seen: Seen, place: u32) -> u32
     }
 }
 
-// 11 words of the fresh player, then 11 after each call, as many as there are places for.
+// 13 words of the fresh player, then 13 after each call, as many as there are places for.
 #[no_mangle]
 pub extern "C" fn compare_cut(file: &[u8], calls: &[u8], answer: &mut [u32])
     ensures { λ _. ⌜ now (answer .exit) ≡ filled (wordAfter (now (file .entry)) (now (calls .entry))) (now (answer .entry)) (min (length (now (answer .entry))) 137000) ⌝ }
@@ -168,7 +168,7 @@ pub extern "C" fn compare_cut(file: &[u8], calls: &[u8], answer: &mut [u32])
     let mut seen = begin(file, calls);
     let mut i = 0;
     while i < n {
-        answer[i] = cut_word(seen, (i % 11) as u32);
+        answer[i] = cut_word(seen, (i % 13) as u32);
         seen = next_cut(calls, seen, i);
         i += 1;
     }

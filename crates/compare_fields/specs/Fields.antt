@@ -68,18 +68,19 @@ setMeasured m at value = getD (firstMeasured m value) at (lastMeasured m value)
 -- the summary, its FTP present
 abbrev pub firstSummary : Summary → ℕ → List Summary
 firstSummary s value =
-    record { «targeted_ms» = value; «in_ms» = s .«in_ms»; «under_ms» = s .«under_ms»; «over_ms» = s .«over_ms»; ftp = s .ftp; «steps_done» = s .«steps_done»; steps = s .steps; skipped = s .skipped; finished = s .finished }
-    ∷ record { «targeted_ms» = s .«targeted_ms»; «in_ms» = value; «under_ms» = s .«under_ms»; «over_ms» = s .«over_ms»; ftp = s .ftp; «steps_done» = s .«steps_done»; steps = s .steps; skipped = s .skipped; finished = s .finished }
-    ∷ record { «targeted_ms» = s .«targeted_ms»; «in_ms» = s .«in_ms»; «under_ms» = value; «over_ms» = s .«over_ms»; ftp = s .ftp; «steps_done» = s .«steps_done»; steps = s .steps; skipped = s .skipped; finished = s .finished }
-    ∷ record { «targeted_ms» = s .«targeted_ms»; «in_ms» = s .«in_ms»; «under_ms» = s .«under_ms»; «over_ms» = value; ftp = s .ftp; «steps_done» = s .«steps_done»; steps = s .steps; skipped = s .skipped; finished = s .finished }
-    ∷ record { «targeted_ms» = s .«targeted_ms»; «in_ms» = s .«in_ms»; «under_ms» = s .«under_ms»; «over_ms» = s .«over_ms»; ftp = s .ftp; «steps_done» = value % 65536; steps = s .steps; skipped = s .skipped; finished = s .finished }
-    ∷ record { «targeted_ms» = s .«targeted_ms»; «in_ms» = s .«in_ms»; «under_ms» = s .«under_ms»; «over_ms» = s .«over_ms»; ftp = s .ftp; «steps_done» = s .«steps_done»; steps = value % 65536; skipped = s .skipped; finished = s .finished }
-    ∷ record { «targeted_ms» = s .«targeted_ms»; «in_ms» = s .«in_ms»; «under_ms» = s .«under_ms»; «over_ms» = s .«over_ms»; ftp = s .ftp; «steps_done» = s .«steps_done»; steps = s .steps; skipped = value % 65536; finished = s .finished }
-    ∷ record { «targeted_ms» = s .«targeted_ms»; «in_ms» = s .«in_ms»; «under_ms» = s .«under_ms»; «over_ms» = s .«over_ms»; ftp = s .ftp; «steps_done» = s .«steps_done»; steps = s .steps; skipped = s .skipped; finished = not (eqb value 0) }
+    record { «targeted_ms» = value; «in_ms» = s .«in_ms»; «under_ms» = s .«under_ms»; «over_ms» = s .«over_ms»; «unread_ms» = s .«unread_ms»; ftp = s .ftp; «steps_done» = s .«steps_done»; steps = s .steps; skipped = s .skipped; finished = s .finished }
+    ∷ record { «targeted_ms» = s .«targeted_ms»; «in_ms» = value; «under_ms» = s .«under_ms»; «over_ms» = s .«over_ms»; «unread_ms» = s .«unread_ms»; ftp = s .ftp; «steps_done» = s .«steps_done»; steps = s .steps; skipped = s .skipped; finished = s .finished }
+    ∷ record { «targeted_ms» = s .«targeted_ms»; «in_ms» = s .«in_ms»; «under_ms» = value; «over_ms» = s .«over_ms»; «unread_ms» = s .«unread_ms»; ftp = s .ftp; «steps_done» = s .«steps_done»; steps = s .steps; skipped = s .skipped; finished = s .finished }
+    ∷ record { «targeted_ms» = s .«targeted_ms»; «in_ms» = s .«in_ms»; «under_ms» = s .«under_ms»; «over_ms» = value; «unread_ms» = s .«unread_ms»; ftp = s .ftp; «steps_done» = s .«steps_done»; steps = s .steps; skipped = s .skipped; finished = s .finished }
+    ∷ record { «targeted_ms» = s .«targeted_ms»; «in_ms» = s .«in_ms»; «under_ms» = s .«under_ms»; «over_ms» = s .«over_ms»; «unread_ms» = s .«unread_ms»; ftp = s .ftp; «steps_done» = value % 65536; steps = s .steps; skipped = s .skipped; finished = s .finished }
+    ∷ record { «targeted_ms» = s .«targeted_ms»; «in_ms» = s .«in_ms»; «under_ms» = s .«under_ms»; «over_ms» = s .«over_ms»; «unread_ms» = s .«unread_ms»; ftp = s .ftp; «steps_done» = s .«steps_done»; steps = value % 65536; skipped = s .skipped; finished = s .finished }
+    ∷ record { «targeted_ms» = s .«targeted_ms»; «in_ms» = s .«in_ms»; «under_ms» = s .«under_ms»; «over_ms» = s .«over_ms»; «unread_ms» = s .«unread_ms»; ftp = s .ftp; «steps_done» = s .«steps_done»; steps = s .steps; skipped = value % 65536; finished = s .finished }
+    ∷ record { «targeted_ms» = s .«targeted_ms»; «in_ms» = s .«in_ms»; «under_ms» = s .«under_ms»; «over_ms» = s .«over_ms»; «unread_ms» = s .«unread_ms»; ftp = s .ftp; «steps_done» = s .«steps_done»; steps = s .steps; skipped = s .skipped; finished = not (eqb value 0) }
+    ∷ record { «targeted_ms» = s .«targeted_ms»; «in_ms» = s .«in_ms»; «under_ms» = s .«under_ms»; «over_ms» = s .«over_ms»; «unread_ms» = value; ftp = s .ftp; «steps_done» = s .«steps_done»; steps = s .steps; skipped = s .skipped; finished = s .finished }
     ∷ []
 
 abbrev pub lastSummary : Summary → ℕ → Summary
-lastSummary s value = record { «targeted_ms» = s .«targeted_ms»; «in_ms» = s .«in_ms»; «under_ms» = s .«under_ms»; «over_ms» = s .«over_ms»; ftp = Some (value % 65536); «steps_done» = s .«steps_done»; steps = s .steps; skipped = s .skipped; finished = s .finished }
+lastSummary s value = record { «targeted_ms» = s .«targeted_ms»; «in_ms» = s .«in_ms»; «under_ms» = s .«under_ms»; «over_ms» = s .«over_ms»; «unread_ms» = s .«unread_ms»; ftp = Some (value % 65536); «steps_done» = s .«steps_done»; steps = s .steps; skipped = s .skipped; finished = s .finished }
 
 unfoldable pub setSummary : Summary → ℕ → ℕ → Summary
 setSummary s at value = getD (firstSummary s value) at (lastSummary s value)

@@ -172,6 +172,10 @@ fn set_summary(summary: Summary, at: u32, value: u64) -> Summary
             q.finished = value != 0;
             q
         }
+        8 => {
+            q.unread_ms = value;
+            q
+        }
         _ => Summary {
             ftp: ReadingOption::Some(low16(value)),
             ..summary

@@ -71,10 +71,11 @@ abbrev pub secsValue : SecsOption → ℕ
 secsValue seconds.None = 0
 secsValue (seconds.Some value) = value
 
--- `remaining_secs`, `distance_step`, `until_end`, then the band on screen
+-- the summary's unread, `remaining_secs`, `distance_step`, `until_end`, then the band on screen
 abbrev pub amountFacts : Reported → List ℕ
 amountFacts reported =
-    answerNumber (reported .remaining .answer)
+    reported .summary .summary .«unread_ms» % 4294967296
+    ∷ answerNumber (reported .remaining .answer)
     ∷ hasSecs (reported .remaining .secs)
     ∷ secsValue (reported .remaining .secs)
     ∷ answerNumber (reported .distance .answer)
@@ -85,7 +86,7 @@ amountFacts reported =
     ∷ []
 
 unfoldable pub amountWord : Reported → ℕ → ℕ
-amountWord reported place = getD (amountFacts reported) place (bandWord (reported .now .now .band) (place - 8))
+amountWord reported place = getD (amountFacts reported) place (bandWord (reported .now .now .band) (place - 9))
 
 -- 0 for none
 abbrev pub complianceWord : ComplianceOption → ℕ

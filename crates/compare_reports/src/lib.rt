@@ -130,10 +130,12 @@ fn secs_value(secs: SecsOption) -> u32
     }
 }
 
-// What remains, whether the step lasts a distance, the part until its end; then the band.
+// The summary's unread, what remains, whether the step lasts a distance, the part until its end; then the band.
 fn amount_word(reported: Reported, place: u32) -> u32
     ensures { λ r. ⌜ r ≡ amountWord reported place ⌝ }
 {
+    let summary_read = reported.summary;
+    let summary = summary_read.summary;
     let remaining = reported.remaining;
     let remaining_answer = remaining.answer;
     let secs = remaining.secs;
@@ -146,15 +148,16 @@ fn amount_word(reported: Reported, place: u32) -> u32
     let shown = screen.now;
     let band = shown.band;
     match place {
-        0 => refused_number(remaining_answer),
-        1 => has_secs(secs),
-        2 => secs_value(secs),
-        3 => refused_number(distance_answer),
-        4 => bit(distance.distance),
-        5 => refused_number(part_answer),
-        6 => low32(part.ms.0),
-        7 => low32(part.mm.0),
-        _ => band_word(band, place - 8),
+        0 => low32(summary.unread_ms),
+        1 => refused_number(remaining_answer),
+        2 => has_secs(secs),
+        3 => secs_value(secs),
+        4 => refused_number(distance_answer),
+        5 => bit(distance.distance),
+        6 => refused_number(part_answer),
+        7 => low32(part.ms.0),
+        8 => low32(part.mm.0),
+        _ => band_word(band, place - 9),
     }
 }
 
@@ -268,7 +271,7 @@ pub fn report(player: Player, ms: Ms, mm: Mm, profile: TrainingProfile) -> Repor
     }
 }
 
-// The word at a place, 80 of them: 16 of the call and the summary, 16 of amounts and the band, 16 of the other numbers on
+// The word at a place, 80 of them: 16 of the call and the summary, 16 of unread, amounts and the band, 16 of the other numbers on
 // screen, 16 of the step on now, 16 of the next one.
 pub fn seen_word(given: Given, reported: Reported, place: u32) -> u32
     ensures { λ r. ⌜ r ≡ seenWord given reported place ⌝ }

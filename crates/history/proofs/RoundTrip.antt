@@ -7,7 +7,7 @@ use native.Mathlib.Omega.{arith}
 use lib.Dec.{leb}
 use lib.ListN.{length, getD}
 use borrow.Author.Tests.{leb-true, leb-false}
-use Rattle.common.proofs.Tests.{and-left}
+use Rattle.common.proofs.Tests.{and-left, cond-by}
 use Rattle.le.specs.Le.{Bytes, numberOf, part}
 use Rattle.le.proofs.Laws.{bytes-part, number-lt, length-part}
 use Rattle.refusal.specs.Number.{questionNumber, answerNumber}
@@ -21,7 +21,7 @@ use Rattle.power.specs.Power.{orZero, readingAt}
 use Rattle.history.specs.declared.Record.{Record}
 use Rattle.history.specs.declared.RecordRead.{RecordRead}
 use Rattle.history.specs.Record.{startAt, datedFlag, measuredFlag, startMs, millis, mostMs, recordBytes}
-use Rattle.history.specs.Decode.{isWhole, isFlagged, nameIn, summaryIn, recordIn, withTest, noRecord, readAs, decodeOf}
+use Rattle.history.specs.Decode.{leastSize, isWhole, isFlagged, nameIn, hasUnread, unreadIn, summaryIn, recordIn, withTest, noRecord, readAs, decodeOf}
 use Rattle.history.specs.RoundTrip.{RecordTyped, RecordFits, WrittenIsRead, ReadFits}
 use Rattle.history.proofs.Laws.{whole-length}
 use Rattle.history.proofs.Names.{from-ok, from-fits, name-again}
@@ -47,6 +47,7 @@ module _ (r : Record) (typed : RecordTyped r) where
         millis-same (r .summary .«in_ms») (omega (arith, fits .inside)),
         millis-same (r .summary .«under_ms») (omega (arith, fits .under)),
         millis-same (r .summary .«over_ms») (omega (arith, fits .over)),
+        millis-same (r .summary .«unread_ms») (omega (arith, fits .unread)),
       )
 
   written-same : RecordFits r → (later : List ℕ) → decodeOf (recordBytes r ++ later) ≡ readAs r
@@ -63,6 +64,7 @@ module _ (r : Record) (typed : RecordTyped r) where
             inside = millis-fits (r .summary .«in_ms») (ap (λ (x : Record). x .summary .«in_ms») e);
             under = millis-fits (r .summary .«under_ms») (ap (λ (x : Record). x .summary .«under_ms») e);
             over = millis-fits (r .summary .«over_ms») (ap (λ (x : Record). x .summary .«over_ms») e);
+            unread = millis-fits (r .summary .«unread_ms») (ap (λ (x : Record). x .summary .«unread_ms») e);
           }
 
       go : (t : Bool) → leb (r .name .len) 20 ≡ t → RecordFits r
@@ -102,7 +104,7 @@ ftp-within true watts h = h
 ftp-within false watts h = omega arith
 
 module _ (s : List ℕ) (b : Bytes s) (whole : isWhole s ≡ true) (test : Test) where
-  long : 70 ≤ length s
+  long : leastSize ≤ length s
   long = whole-length s whole
 
   in-typed : RecordTyped (recordIn s test)
@@ -118,8 +120,12 @@ module _ (s : List ℕ) (b : Bytes s) (whole : isWhole s ≡ true) (test : Test)
         ftp = ftp-within (isFlagged s measuredFlag) (numberOf (part s 64 2)) (number-fits s b 64 2 (omega (arith, long)));
       }
 
-  within : (at : ℕ) → at + 4 ≤ 70 → numberOf (part s at 4) ≤ mostMs
+  within : (at : ℕ) → at + 4 ≤ leastSize → numberOf (part s at 4) ≤ mostMs
   within at h = omega (arith, number-fits s b at 4 (omega (arith, long, h)))
+
+  unread-within : unreadIn s ≤ mostMs
+  unfolding unreadIn
+  unread-within = cond-by (λ (n : ℕ). n ≤ mostMs) (hasUnread s) (λ _. within 66 (omega arith)) (λ _. omega arith)
 
   in-fits : RecordFits (recordIn s test)
   unfolding recordIn summaryIn nameIn
@@ -130,6 +136,7 @@ module _ (s : List ℕ) (b : Bytes s) (whole : isWhole s ≡ true) (test : Test)
         inside = within 52 (omega arith);
         under = within 56 (omega arith);
         over = within 60 (omega arith);
+        unread = unread-within;
       }
 
 module _ (s : List ℕ) (b : Bytes s) (r : Record) (e : decodeOf s ≡ readAs r) where

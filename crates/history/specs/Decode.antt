@@ -23,7 +23,7 @@ use Rattle.start.specs.Start.{noSummary}
 use Rattle.history.specs.declared.StartOption.the-variants as start
 use Rattle.history.specs.declared.Record.{Record}
 use Rattle.history.specs.declared.RecordRead.{RecordRead}
-use Rattle.history.specs.Record.{startAt, finishedFlag, datedFlag, measuredFlag}
+use Rattle.history.specs.Record.{version, bodySize, startAt, finishedFlag, datedFlag, measuredFlag}
 
 -- Where a record is read.
 
@@ -76,6 +76,9 @@ overPlace = 60
 abbrev pub ftpPlace : ℕ
 ftpPlace = 64
 
+abbrev pub unreadPlace : ℕ
+unreadPlace = 66
+
 -- Whether the bytes are a record.
 
 abbrev pub leastVersion : ℕ
@@ -83,6 +86,10 @@ leastVersion = 1
 
 abbrev pub leastBody : ℕ
 leastBody = 66
+
+-- so that every record has as many bytes as this, its check word included
+abbrev pub leastSize : ℕ
+leastSize = leastBody + 4
 
 -- "VWKO"
 abbrev pub begins : List ℕ → Bool
@@ -111,6 +118,13 @@ isFlagged s value = flagSet (getD s flagsPlace 0) value
 unfoldable pub nameIn : List ℕ → Name
 nameIn s = nameFrom (part s (namePlace + 1) (getD s namePlace 0))
 
+-- Document 02, g: "A version 1 record reads as unread 0, as does any body shorter than 70."
+abbrev pub hasUnread : List ℕ → Bool
+hasUnread s = leb version (getD s versionPlace 0) && leb bodySize (bodyOf s)
+
+unfoldable pub unreadIn : List ℕ → ℕ
+unreadIn s = cond (hasUnread s) (numberOf (part s unreadPlace 4)) 0
+
 unfoldable pub summaryIn : List ℕ → Summary
 summaryIn s =
     record {
@@ -118,6 +132,7 @@ summaryIn s =
       «in_ms» = numberOf (part s inPlace 4);
       «under_ms» = numberOf (part s underPlace 4);
       «over_ms» = numberOf (part s overPlace 4);
+      «unread_ms» = unreadIn s;
       ftp = readingAt (isFlagged s measuredFlag) (numberOf (part s ftpPlace 2));
       «steps_done» = numberOf (part s donePlace 2);
       steps = numberOf (part s stepsPlace 2);

@@ -1,4 +1,5 @@
--- history.rs: the bytes of a ride record. Document 01, 'Ride record': "70 bytes as its `encode` writes".
+-- history.rs: the bytes of a ride record. Document 01, 'Ride record': "70 bytes as its `encode` writes"; document 02, g: "The record is
+-- written as version 2, body 70, with unread as a 4-byte number at 66, limited like the others, and the check word at 70."
 use mathlib.Core.Path.{_≡_}
 use mathlib.Core.Bool.{Bool, true, false, cond}
 use mathlib.Core.List.{List, [], _∷_, _++_}
@@ -34,19 +35,19 @@ recordOf name test summary journal id start dated =
       summary = summary;
     }
 
--- What is written first: "VWKO", the version, and how many bytes stand before the check word.
+-- What is written first: "VWKO", the version, and how many bytes stand before the check word. Version 2 is the first with unread.
 
 abbrev pub magic : List ℕ
 magic = 86 ∷ 87 ∷ 75 ∷ 79 ∷ []
 
 abbrev pub version : ℕ
-version = 1
+version = 2
 
 abbrev pub bodySize : ℕ
-bodySize = 66
+bodySize = 70
 
 abbrev pub recordSize : ℕ
-recordSize = 70
+recordSize = 74
 
 -- The flags: finished, start time known, FTP measured.
 
@@ -92,7 +93,7 @@ headBytes r =
 unfoldable pub textBytes : Name → List ℕ
 textBytes n = take 20 (asBytes n ++ replicate 20 0)
 
--- test, steps, tallies, FTP
+-- test, steps, tallies, FTP, unread
 unfoldable pub tallyBytes : Test → Summary → List ℕ
 tallyBytes t s =
     (testKind t ∷ [])
@@ -101,7 +102,8 @@ tallyBytes t s =
     ++ (bytesOf 2 (s .skipped)
     ++ (bytesOf 4 (millis (s .«targeted_ms»))
     ++ (bytesOf 4 (millis (s .«in_ms»))
-    ++ (bytesOf 4 (millis (s .«under_ms»)) ++ (bytesOf 4 (millis (s .«over_ms»)) ++ bytesOf 2 (orZero (s .ftp)))))))))
+    ++ (bytesOf 4 (millis (s .«under_ms»))
+    ++ (bytesOf 4 (millis (s .«over_ms»)) ++ (bytesOf 2 (orZero (s .ftp)) ++ bytesOf 4 (millis (s .«unread_ms»))))))))))
 
 unfoldable pub bodyBytes : Record → List ℕ
 bodyBytes r = headBytes r ++ (textBytes (r .name) ++ tallyBytes (r .test) (r .summary))
@@ -110,6 +112,6 @@ bodyBytes r = headBytes r ++ (textBytes (r .name) ++ tallyBytes (r .test) (r .su
 unfoldable pub recordBytes : Record → List ℕ
 recordBytes r = bodyBytes r ++ bytesOf 4 (checkOf (bodyBytes r))
 
--- "70 bytes", whatever the record
+-- 74 bytes, whatever the record
 abbrev pub RecordSize : Type 0
 RecordSize = (r : Record) → length (recordBytes r) ≡ recordSize

@@ -1,10 +1,10 @@
-// history.rs: how a ride's workout went, as a record of 70 bytes, and its reader. Little-endian:
+// history.rs: how a ride's workout went, as a record of 74 bytes, and its reader. Little-endian:
 //
 // | Bytes | Field |
 // | --- | --- |
 // | 0..4 | magic `VWKO` |
-// | 4 | version, 1 |
-// | 5 | body length `n` before the check word: 66 in version 1 |
+// | 4 | version, 2 |
+// | 5 | body length `n` before the check word: 70 in version 2, 66 in version 1 |
 // | 6 | journal: `i` internal, `b` bulk |
 // | 7 | flags: 1 finished, 2 start time known, 4 FTP measured |
 // | 8..12 | ride id in that journal |
@@ -14,6 +14,7 @@
 // | 42..48 | steps done, steps, skipped (u16 each) |
 // | 48..64 | targeted, in, under and over target ms (u32 each) |
 // | 64..66 | FTP the test measured, W |
+// | 66..70 | ms with a target and without its reading, from version 2 on (u32) |
 // | n..n+4 | check word of bytes 0..n |
 //
 // Later versions only append fields before the check word and raise the version; the reader takes the fields it knows from any
@@ -23,8 +24,9 @@ ghost use Prim.Native.Nat.{_≤_, _<_};
 ghost use lib.ListN.{length, getD};
 ghost use Rattle.power.specs.Power.{orZero};
 ghost use Rattle.history.specs.Record.{startAt, startMs, RecordSize};
-ghost use Rattle.history.specs.Decode.{begins, isWhole, nameIn, summaryIn, recordIn, noRecord, decodeOf};
+ghost use Rattle.history.specs.Decode.{begins, isWhole, nameIn, leastSize, unreadIn, summaryIn, recordIn, noRecord, decodeOf};
 ghost use Rattle.history.specs.Samples.{Samples};
+ghost use Rattle.history.specs.Unread.{UnreadByVersion};
 ghost use Rattle.history.specs.RoundTrip.{RecordTyped, WrittenIsRead, ReadFits};
 use decode::TestOption;
 use decode::test_of;
@@ -43,6 +45,11 @@ const VERSION_1: u8 = 1;
 
 // Body bytes of version 1, before the check word.
 const BODY_V1: usize = 66;
+
+// The version that is written, the first with unread time, and its body bytes.
+pub const VERSION_2: u8 = 2;
+
+pub const BODY_V2: usize = 70;
 
 // The flags.
 const FINISHED: u16 = 1;
@@ -128,15 +135,29 @@ fn is_whole(bytes: &[u8]) -> bool
 }
 
 fn read_name(bytes: &[u8]) -> Name
-    requires { ⌜ (70 ≤ length (now bytes)) × (getD (now bytes) 20 0 ≤ 20) ⌝ }
+    requires { ⌜ (leastSize ≤ length (now bytes)) × (getD (now bytes) 20 0 ≤ 20) ⌝ }
     ensures { λ r. ⌜ r ≡ nameIn (now (bytes .entry)) ⌝ }
 {
     let end = 21 + size_of(bytes[20]);
     Name::from_bytes(&bytes[21..end])
 }
 
+// Unread time, which version 1 and a shorter body don't have: 0 there.
+fn read_unread(bytes: &[u8]) -> u64
+    requires { ⌜ leastSize ≤ length (now bytes) ⌝ }
+    ensures { λ r. ⌜ r ≡ unreadIn (now (bytes .entry)) ⌝ }
+{
+    if bytes[4] < VERSION_2 {
+        return 0;
+    }
+    if size_of(bytes[5]) < BODY_V2 {
+        return 0;
+    }
+    le::get_u32(bytes, 66) as u64
+}
+
 fn read_summary(bytes: &[u8]) -> Summary
-    requires { ⌜ 70 ≤ length (now bytes) ⌝ }
+    requires { ⌜ leastSize ≤ length (now bytes) ⌝ }
     ensures { λ r. ⌜ r ≡ summaryIn (now (bytes .entry)) ⌝ }
 {
     let flags = flags_of(bytes[7]);
@@ -145,6 +166,7 @@ fn read_summary(bytes: &[u8]) -> Summary
         in_ms: le::get_u32(bytes, 52) as u64,
         under_ms: le::get_u32(bytes, 56) as u64,
         over_ms: le::get_u32(bytes, 60) as u64,
+        unread_ms: read_unread(bytes),
         ftp: reading_at(is_set(flags, MEASURED), le::get_u16(bytes, 64)),
         steps_done: le::get_u16(bytes, 42),
         steps: le::get_u16(bytes, 44),
@@ -154,7 +176,7 @@ fn read_summary(bytes: &[u8]) -> Summary
 }
 
 fn read_record(bytes: &[u8], test: Test) -> Record
-    requires { ⌜ (70 ≤ length (now bytes)) × (getD (now bytes) 20 0 ≤ 20) ⌝ }
+    requires { ⌜ (leastSize ≤ length (now bytes)) × (getD (now bytes) 20 0 ≤ 20) ⌝ }
     ensures { λ r. ⌜ r ≡ recordIn (now (bytes .entry)) test ⌝ }
 {
     Record {
@@ -202,15 +224,21 @@ pub fn decode(bytes: &[u8]) -> RecordRead
     }
 }
 
-// A record's bytes are 70. It does nothing: its contract is the statement.
+// A record's bytes are 74. It does nothing: its contract is the statement.
 pub fn record_size()
     ensures { λ _. ⌜ RecordSize ⌝ }
 {}
 
-// What the Rust writes for some rides, and reads of some bytes, is what the definitions give. It does nothing: its contract is
-// the statement.
+// The bytes of some rides, which the Rust reads, and what is read of some bytes, the Rust's own among them, are what the definitions
+// give. It does nothing: its contract is the statement.
 pub fn rust_samples()
     ensures { λ _. ⌜ Samples ⌝ }
+{}
+
+// A version 1 record and any body shorter than 70 read as unread 0, every other record as the number at 66. It does nothing: its
+// contract is the statement.
+pub fn unread_by_version()
+    ensures { λ _. ⌜ UnreadByVersion ⌝ }
 {}
 
 // A record written and read again is the same exactly when its fields fit. It does nothing: its contract is the statement.

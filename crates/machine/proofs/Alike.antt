@@ -52,7 +52,7 @@ use Rattle.measure.specs.Measure.{Meter, meter, minuteOf, lowBy, rampTarget, ra
 use Rattle.step_end.specs.StepEnd as player
 use Rattle.step_end.specs.StepEnd.{Outcome, dueAt, countdownsTo, countdownsOf, orElse, measuredAfter, arrived, afterEvent, nextTo, nextOf}
 use Rattle.rounds.specs.Rounds.{Riding, riding, advanced, complianceNow}
-use Rattle.machine.specs.Machine.{Tallies, Sums, Machine, noSums, sumsAt, greatest, stepOf, stepAt, newest, isTest, testIn, endOf, twenty, rampOf, ramp, result, resultIn, ftpAfter, ftpEvents, nextEvent, ended, turns, readingFor, Judged, isUnder, isIn, isOver, isNothing, between, judge, judgeIf, judgedBy, judgedIn, zeroIfAbsent, lastPower}
+use Rattle.machine.specs.Machine.{Tallies, Sums, Machine, noSums, sumsAt, greatest, stepOf, stepAt, newest, isTest, testIn, endOf, twenty, rampOf, ramp, result, resultIn, ftpAfter, ftpEvents, nextEvent, ended, turns, readingFor, Judged, isUnder, isIn, isOver, isUnread, isNothing, between, judge, judgeIf, judgedBy, judgedIn, zeroIfAbsent, lastPower}
 use Rattle.machine.specs.Runs.{Totals}
 use Rattle.machine.specs.ThirdDemand.{isRamp, isCompared, compared}
 use Rattle.machine.proofs.Seconds.{MinuteIs, capped}
@@ -66,6 +66,7 @@ pub record SummaryIs (steps position skipped : ℕ) (ftp : ReadingOption) (t : T
   pub inside : s .«in_ms» ≡ t .inside
   pub under : s .«under_ms» ≡ t .under
   pub over : s .«over_ms» ≡ t .over
+  pub unread : s .«unread_ms» ≡ t .unread
   pub ftp-is : s .ftp ≡ ftp
   pub steps-done : s .«steps_done» ≡ position
   pub steps-are : s .steps ≡ steps
@@ -140,7 +141,7 @@ pub record Plain (s : Step) : Type 0 where
 -- the player's answer in the machine's words
 abbrev judgedAs : ComplianceOption → Judged
 judgedAs NoBand = isNothing
-judgedAs NoReading = isNothing
+judgedAs NoReading = isUnread
 judgedAs (how.Some Under) = isUnder
 judgedAs (how.Some In) = isIn
 judgedAs (how.Some Over) = isOver
@@ -193,13 +194,25 @@ tallied-is : (c : ComplianceOption) (n steps position skipped : ℕ) (ftp : Read
     → SummaryIs steps position skipped ftp t s → SummaryIs steps position skipped ftp (tallyBy (judgedAs c) n t) (tallied c n s)
 unfolding tallied tallyBy
 tallied-is NoBand n steps position skipped ftp t s R = R
-tallied-is NoReading n steps position skipped ftp t s R = R
+tallied-is NoReading n steps position skipped ftp t s R =
+    record {
+      targeted = R .targeted;
+      inside = R .inside;
+      under = R .under;
+      over = R .over;
+      unread = omega (arith, R .unread);
+      ftp-is = R .ftp-is;
+      steps-done = R .steps-done;
+      steps-are = R .steps-are;
+      skipped-are = R .skipped-are;
+    }
 tallied-is (how.Some Under) n steps position skipped ftp t s R =
     record {
       targeted = omega (arith, R .targeted);
       inside = R .inside;
       under = omega (arith, R .under);
       over = R .over;
+      unread = R .unread;
       ftp-is = R .ftp-is;
       steps-done = R .steps-done;
       steps-are = R .steps-are;
@@ -211,6 +224,7 @@ tallied-is (how.Some In) n steps position skipped ftp t s R =
       inside = omega (arith, R .inside);
       under = R .under;
       over = R .over;
+      unread = R .unread;
       ftp-is = R .ftp-is;
       steps-done = R .steps-done;
       steps-are = R .steps-are;
@@ -222,6 +236,7 @@ tallied-is (how.Some Over) n steps position skipped ftp t s R =
       inside = R .inside;
       under = R .under;
       over = omega (arith, R .over);
+      unread = R .unread;
       ftp-is = R .ftp-is;
       steps-done = R .steps-done;
       steps-are = R .steps-are;
@@ -442,6 +457,7 @@ module _ (w : Workout) (each : (i : ℕ) (s : Step) → stepAt w i ≡ some s �
                 inside = R .summary .inside;
                 under = R .summary .under;
                 over = R .summary .over;
+                unread = R .summary .unread;
                 ftp-is = ap (orElse (resultIn w s marked m)) (R .summary .ftp-is) ∙ ftp-after (resultIn w s marked m) (m .given .ftp);
                 steps-done = ap (λ (n : ℕ). n + 1) (R .summary .steps-done);
                 steps-are = R .summary .steps-are;

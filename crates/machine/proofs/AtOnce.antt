@@ -22,7 +22,7 @@ use Rattle.model.specs.declared.Test.the-variants as tests
 use Rattle.model.specs.declared.Step.{Step}
 use Rattle.model.specs.declared.Workout.{Workout}
 use Rattle.model.specs.Target.{bandOf}
-use Rattle.machine.specs.Machine.{Tallies, Sums, Machine, stepAt, testIn, endOf, ended, Judged, isUnder, isIn, isOver, isNothing, judgedBy, judgedIn, tally, lastPower, rested, summed, ridden, endsNow, closed, millisecondIn, millisecond, milliseconds}
+use Rattle.machine.specs.Machine.{Tallies, Sums, Machine, stepAt, testIn, endOf, ended, Judged, isUnder, isIn, isOver, isUnread, isNothing, judgedBy, judgedIn, tally, lastPower, rested, summed, ridden, endsNow, closed, millisecondIn, millisecond, milliseconds}
 use Rattle.machine.specs.ThirdDemand.{isRamp}
 use Rattle.machine.proofs.Seconds.{replicate-more}
 
@@ -44,9 +44,10 @@ band-stays (FtpRamp start step every) p a b f = absurd (apart f)
 -- Some milliseconds at once.
 
 unfoldable pub tallyBy : Judged → ℕ → Tallies → Tallies
-tallyBy isUnder n t = record { targeted = t .targeted + n; inside = t .inside; under = t .under + n; over = t .over }
-tallyBy isIn n t = record { targeted = t .targeted + n; inside = t .inside + n; under = t .under; over = t .over }
-tallyBy isOver n t = record { targeted = t .targeted + n; inside = t .inside; under = t .under; over = t .over + n }
+tallyBy isUnder n t = record { targeted = t .targeted + n; inside = t .inside; under = t .under + n; over = t .over; unread = t .unread }
+tallyBy isIn n t = record { targeted = t .targeted + n; inside = t .inside + n; under = t .under; over = t .over; unread = t .unread }
+tallyBy isOver n t = record { targeted = t .targeted + n; inside = t .inside; under = t .under; over = t .over + n; unread = t .unread }
+tallyBy isUnread n t = record { targeted = t .targeted; inside = t .inside; under = t .under; over = t .over; unread = t .unread + n }
 tallyBy isNothing n t = t
 
 unfoldable pub sumsBy : Test → ℕ → ℕ → Sums → Sums
@@ -65,22 +66,26 @@ riddenBy w p s n m =
       given = m .given;
     }
 
-tallies-path : {a b c d a' b' c' d' : ℕ} → a ≡ a' → b ≡ b' → c ≡ c' → d ≡ d'
-    → _≡_ {A = Tallies} (record { targeted = a; inside = b; under = c; over = d }) (record { targeted = a'; inside = b'; under = c'; over = d' })
-tallies-path p q r s = λ i. record { targeted = p i; inside = q i; under = r i; over = s i }
+tallies-path : {a b c d e a' b' c' d' e' : ℕ} → a ≡ a' → b ≡ b' → c ≡ c' → d ≡ d' → e ≡ e'
+    → _≡_ {A = Tallies}
+    (record { targeted = a; inside = b; under = c; over = d; unread = e })
+    (record { targeted = a'; inside = b'; under = c'; over = d'; unread = e' })
+tallies-path p q r s t = λ i. record { targeted = p i; inside = q i; under = r i; over = s i; unread = t i }
 
 tally-none : (j : Judged) (t : Tallies) → tallyBy j 0 t ≡ t
 unfolding tallyBy
-tally-none isUnder t = tallies-path (omega arith) refl (omega arith) refl
-tally-none isIn t = tallies-path (omega arith) (omega arith) refl refl
-tally-none isOver t = tallies-path (omega arith) refl refl (omega arith)
+tally-none isUnder t = tallies-path (omega arith) refl (omega arith) refl refl
+tally-none isIn t = tallies-path (omega arith) (omega arith) refl refl refl
+tally-none isOver t = tallies-path (omega arith) refl refl (omega arith) refl
+tally-none isUnread t = tallies-path refl refl refl refl (omega arith)
 tally-none isNothing t = refl
 
 tally-more : (j : Judged) (n : ℕ) (t : Tallies) → tallyBy j (suc n) t ≡ tallyBy j n (tally j t)
 unfolding tallyBy tally
-tally-more isUnder n t = tallies-path (omega arith) refl (omega arith) refl
-tally-more isIn n t = tallies-path (omega arith) (omega arith) refl refl
-tally-more isOver n t = tallies-path (omega arith) refl refl (omega arith)
+tally-more isUnder n t = tallies-path (omega arith) refl (omega arith) refl refl
+tally-more isIn n t = tallies-path (omega arith) (omega arith) refl refl refl
+tally-more isOver n t = tallies-path (omega arith) refl refl (omega arith) refl
+tally-more isUnread n t = tallies-path refl refl refl refl (omega arith)
 tally-more isNothing n t = refl
 
 sums-path : {a b c a' b' c' : ℕ} {l l' : List ℕ} → a ≡ a' → b ≡ b' → c ≡ c' → l ≡ l'

@@ -247,6 +247,7 @@ module _ (w : Workout) (p : TrainingProfile) (T : Held w) (ok : profileOk p ≡ 
                           inside = refl;
                           under = refl;
                           over = refl;
+                          unread = refl;
                           ftp-is = refl;
                           steps-done = refl;
                           steps-are = refl;
@@ -293,6 +294,7 @@ module _ (w : Workout) (p : TrainingProfile) (T : Held w) (ok : profileOk p ≡ 
         «in_ms» = S .inside i;
         «under_ms» = S .under i;
         «over_ms» = S .over i;
+        «unread_ms» = S .unread i;
         ftp = S .ftp-is i;
         «steps_done» = S .steps-done i;
         steps = S .steps-are i;

@@ -17,11 +17,12 @@ use Rattle.machine.specs.Cutting.{uncut, own, alone, sumMs, sumMm}
 use Rattle.order.specs.Order as order
 use Rattle.order.specs.Order.{playedOf, playedLen, nth, run, runs, blockAt}
 use Rattle.machine.specs.Machine.{start, stepAt, isFinished, reading, withExtra, skipped, ended, result, ramp, twenty, mean, greatest, tally, summed, rested, ridden, endsNow, closed, present, readingFor, millisecondIn, millisecond, milliseconds, summaryOf}
-use Rattle.machine.specs.Runs.{called, begun, pieceAsks, unlessRefused, withPiece, afterPiece, afterPieces, afterCall, afterCalls, piecesAsk, callAsks, callsAsk}
+use Rattle.machine.specs.Runs.{called, begun, pieceAsks, unlessRefused, withPiece, afterPiece, afterPieces, afterCall, afterCalls, piecesAsk, callAsks, callsAsk, lasts}
+use Rattle.machine.specs.Banded.{banded, bandedMs, listBanded}
 use Rattle.machine.specs.Samples.{Samples}
 
 pub samples-are : Samples
-unfolding milliseconds millisecond millisecondIn closed ridden ended endsNow summed rested tally readingFor reading withExtra skipped start stepAt isFinished playedOf order.stepAt playedLen order.order nth run runs blockAt sum range repeats bandOf present summaryOf result ramp twenty mean greatest begun pieceAsks unlessRefused withPiece afterPiece afterPieces afterCall afterCalls piecesAsk callAsks callsAsk flatMap all allAt nameOk percentOf heartZone heartRange capped blocksSound allApart formOk stepSlots blockSlots isNoStep stepOk validAnswer workoutAnswer sameLength sameTarget sameStep sameBytes sameName onPlace coreOk standingOf fresh newOf skipAnswer skipOf extendCore extendBy extendWith uncut own alone sumMs sumMm called
+unfolding milliseconds millisecond millisecondIn closed ridden ended endsNow summed rested tally readingFor reading withExtra skipped start stepAt isFinished playedOf order.stepAt playedLen order.order nth run runs blockAt sum range repeats bandOf present summaryOf result ramp twenty mean greatest begun pieceAsks unlessRefused withPiece afterPiece afterPieces afterCall afterCalls piecesAsk callAsks callsAsk lasts banded bandedMs listBanded flatMap all allAt nameOk percentOf heartZone heartRange capped blocksSound allApart formOk stepSlots blockSlots isNoStep stepOk validAnswer workoutAnswer sameLength sameTarget sameStep sameBytes sameName onPlace coreOk standingOf fresh newOf skipAnswer skipOf extendCore extendBy extendWith uncut own alone sumMs sumMm called
 samples-are =
     record {
       taken = record { passes = refl; plain = refl };
@@ -43,7 +44,10 @@ samples-are =
       zone-1 = (refl, refl, refl);
       zone-2 = (refl, refl);
       no-heart = refl;
+      no-band = refl;
       tallies = refl;
+      unread = refl;
+      under-band = refl;
       tested = refl;
       below = refl;
       skips = refl;

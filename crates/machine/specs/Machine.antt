@@ -47,12 +47,13 @@ pub record StepTime : Type 0 where
   pub time : ℕ
   pub extra : ℕ
 
--- "tallies"
+-- "tallies"; "The machine counts unread too" (document 02, g).
 pub record Tallies : Type 0 where
   pub targeted : ℕ
   pub inside : ℕ
   pub under : ℕ
   pub over : ℕ
+  pub unread : ℕ
 
 -- "test sums, a list of seconds' watts with a rest". The newest second stands first; `seconds_either_way` says that the result is the
 -- same with the newest last.
@@ -79,7 +80,7 @@ pub record Machine : Type 0 where
 
 -- "It starts at position 0, all else 0, empty or absent."
 abbrev pub noTallies : Tallies
-noTallies = record { targeted = 0; inside = 0; under = 0; over = 0 }
+noTallies = record { targeted = 0; inside = 0; under = 0; over = 0; unread = 0 }
 
 abbrev pub noSums : Sums
 noSums = record { sum = 0; time = 0; rest = 0; seconds = [] }
@@ -296,11 +297,12 @@ readingFor metrics.Power samples = averageWatts (present samples)
 readingFor metrics.Heart samples = newest samples .«heart_bpm»
 readingFor metrics.Cadence samples = turns (newest samples .«cadence_tenths»)
 
--- "in, under or over", or nothing: no band, or its reading absent.
+-- "in, under or over"; unread: "a band stood, its reading was absent" (document 02, g); or nothing, without a band.
 pub data Judged : Type 0 where
   isUnder : Judged
   isIn : Judged
   isOver : Judged
+  isUnread : Judged
   isNothing : Judged
 
 -- In from the low end to the high one, both included.
@@ -320,7 +322,7 @@ judge (FtpRamp start step every) b p value = between (b .low) (b .high) value
 
 -- "with a band and its reading present"
 abbrev pub judgeIf : Target → Band → TrainingProfile → ReadingOption → Judged
-judgeIf target b p None = isNothing
+judgeIf target b p None = isUnread
 judgeIf target b p (Some value) = judge target b p value
 
 abbrev pub judgedBy : Target → BandOption → TrainingProfile → List Sample → Judged
@@ -330,11 +332,12 @@ judgedBy target (bands.Some b) p samples = judgeIf target b p (readingFor (b .me
 abbrev pub judgedIn : TrainingProfile → Step → Machine → Judged
 judgedIn p s m = judgedBy (s .target) (bandOf (s .target) p (m .step .time / 1000)) p (m .readings)
 
--- "one to targeted and one to in, under or over"
+-- "one to targeted and one to in, under or over", or one to unread
 unfoldable pub tally : Judged → Tallies → Tallies
-tally isUnder t = record { targeted = t .targeted + 1; inside = t .inside; under = t .under + 1; over = t .over }
-tally isIn t = record { targeted = t .targeted + 1; inside = t .inside + 1; under = t .under; over = t .over }
-tally isOver t = record { targeted = t .targeted + 1; inside = t .inside; under = t .under; over = t .over + 1 }
+tally isUnder t = record { targeted = t .targeted + 1; inside = t .inside; under = t .under + 1; over = t .over; unread = t .unread }
+tally isIn t = record { targeted = t .targeted + 1; inside = t .inside + 1; under = t .under; over = t .over; unread = t .unread }
+tally isOver t = record { targeted = t .targeted + 1; inside = t .inside; under = t .under; over = t .over + 1; unread = t .unread }
+tally isUnread t = record { targeted = t .targeted; inside = t .inside; under = t .under; over = t .over; unread = t .unread + 1 }
 tally isNothing t = t
 
 -- "the last power (absent 0)"
@@ -397,6 +400,7 @@ summaryOf w m =
       «in_ms» = m .tallies .inside;
       «under_ms» = m .tallies .under;
       «over_ms» = m .tallies .over;
+      «unread_ms» = m .tallies .unread;
       ftp = m .given .ftp;
       «steps_done» = m .step .position;
       steps = playedLen w;

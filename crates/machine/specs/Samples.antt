@@ -15,7 +15,7 @@ use Rattle.model.specs.declared.Intensity.the-variants.{Work}
 use Rattle.model.specs.declared.Intensity.the-variants as intensities
 use Rattle.model.specs.declared.Length.the-variants.{Time}
 use Rattle.model.specs.declared.Target.{Target}
-use Rattle.model.specs.declared.Target.the-variants.{Free, Watts, HeartZone}
+use Rattle.model.specs.declared.Target.the-variants.{Free, Watts, HeartZone, Lthr}
 use Rattle.model.specs.declared.Metric.the-variants as metrics
 use Rattle.model.specs.Target.{bandOf}
 use Rattle.model.specs.declared.Test.{Test}
@@ -28,10 +28,11 @@ use Rattle.power.specs.declared.ReadingOption.the-variants.{None, Some}
 use Rattle.readings.specs.declared.Sample.{Sample}
 use Rattle.events.specs.Events.{Event}
 use Rattle.start.specs.Start.{newOf}
-use Rattle.machine.specs.Machine.{Machine, Judged, isUnder, isIn, isOver, isNothing, readingFor, judgedBy, summaryOf}
+use Rattle.machine.specs.Machine.{Machine, Judged, isUnder, isIn, isOver, isUnread, isNothing, readingFor, judgedBy, summaryOf}
 use Rattle.machine.specs.Cutting.{Call, read, ride, skip, extend, CutCall, uncut, alone, AllWellCut}
 use Rattle.machine.specs.Runs.{called, begun, afterCalls, callsAsk}
 use Rattle.machine.specs.ThirdDemand.{Taken, InMemory, AllAccepted}
+use Rattle.machine.specs.Banded.{listBanded}
 
 abbrev pub step : Intensity → ℕ → Target → Step
 step intensity secs target = record { intensity = intensity; length = Time secs; target = target; note = emptyName }
@@ -75,6 +76,10 @@ after w l = afterCalls w profile l begun .machine
 abbrev pub single : Workout
 single = workout tests.None (step Work 2 (Watts 100 200) ∷ [])
 
+-- 2 s at 80 to 160 bpm, then 1 s without a target.
+abbrev pub strap : Workout
+strap = workout tests.None (step Work 2 (Lthr 50 100) ∷ step Work 1 Free ∷ [])
+
 abbrev pub pair : Test → Workout
 pair test = workout test (step intensities.Test 2 Free ∷ step intensities.Test 1 Free ∷ [])
 
@@ -84,6 +89,13 @@ cutOnce = readWatts 60 ∷ rideIn 500 200 300 ∷ other (extend 60 500) ∷ othe
 
 abbrev pub cutAgain : List CutCall
 cutAgain = readWatts 60 ∷ rideIn 500 0 500 ∷ other (extend 60 500) ∷ other (extend 30 250) ∷ other (skip 193 193) ∷ []
+
+abbrev pub readHeart : ReadingOption → CutCall
+readHeart bpm = record { call = read (record { «power_watts» = Some 150; «heart_bpm» = bpm; «cadence_tenths» = None }); pieces = [] }
+
+-- The strap of `strap`'s rider falls off for 600 ms; the last 500 ms are after the finish.
+abbrev pub fallsOff : List CutCall
+fallsOff = readHeart (Some 120) ∷ rideIn 500 200 300 ∷ readHeart None ∷ rideIn 600 300 300 ∷ readHeart (Some 120) ∷ rideIn 2400 1000 1400 ∷ []
 
 -- Each test of `pair` at its own watts.
 abbrev pub bothTests : List CutCall
@@ -132,7 +144,9 @@ pub record Samples : Type 0 where
   -- "at LTHR 160 zone 1 shows 104 to 129, and 90 bpm is In."
   pub zone-1 : (judged (HeartZone 1) (heart 90) ≡ isIn) × (judged (HeartZone 1) (heart 129) ≡ isIn) × (judged (HeartZone 1) (heart 130) ≡ isOver)
   pub zone-2 : (judged (HeartZone 2) (heart 129) ≡ isUnder) × (judged (HeartZone 2) (heart 130) ≡ isIn)
-  pub no-heart : judged (HeartZone 1) (watts (Some 150)) ≡ isNothing
+  -- a band without its reading, and no band
+  pub no-heart : judged (HeartZone 1) (watts (Some 150)) ≡ isUnread
+  pub no-band : judged Free (watts (Some 150)) ≡ isNothing
   -- under, then in: the average of 60 and 150 is 105
   pub tallies : summaryOf single (after single (readWatts 60 ∷ rideIn 500 200 300 ∷ readWatts 150 ∷ rideIn 2500 1000 1500 ∷ []))
       ≡ record {
@@ -140,12 +154,28 @@ pub record Samples : Type 0 where
         «in_ms» = 1500;
         «under_ms» = 500;
         «over_ms» = 0;
+        «unread_ms» = 0;
         ftp = None;
         «steps_done» = 1;
         steps = 1;
         skipped = 0;
         finished = true;
       }
+  -- the 600 ms without the strap are unread, and the second without a target is neither that nor targeted
+  pub unread : summaryOf strap (after strap fallsOff)
+      ≡ record {
+        «targeted_ms» = 1400;
+        «in_ms» = 1400;
+        «under_ms» = 0;
+        «over_ms» = 0;
+        «unread_ms» = 600;
+        ftp = None;
+        «steps_done» = 2;
+        steps = 2;
+        skipped = 0;
+        finished = true;
+      }
+  pub under-band : listBanded strap profile fallsOff begun ≡ 2000
   -- "1,200 s test at 53 W: 50; 52: none", of 2 s; the second test stands on its own step, at 200 W: with the first one's sums it would
   -- give 97
   pub tested : after (pair tests.Twenty) bothTests .given .events ≡ event 3 50 ∷ event 1 1 ∷ event 3 190 ∷ event 2 0 ∷ []

@@ -1,6 +1,7 @@
 // Document 01, 'The millisecond machine', and the third demand. The crate has statements; its functions compute nothing.
 ghost use Prim.Native.Nat.{_<_};
 ghost use Rattle.power.specs.Power.{orZero};
+ghost use Rattle.machine.specs.Banded.{UnderBand};
 ghost use Rattle.machine.specs.Samples.{Samples};
 ghost use Rattle.machine.specs.ThirdDemand.{ThirdDemand, PiecesAtOnce, CuttingsAgree, RefusedStays, SecondsEitherWay};
 use power::ReadingOption;
@@ -28,6 +29,11 @@ pub fn refused_stays()
 // The best minute is the same with the newest second first or last.
 pub fn seconds_either_way()
     ensures { λ _. ⌜ SecondsEitherWay ⌝ }
+{}
+
+// Targeted and unread time is all the time ridden under a band: of the machine, of the player, and of each part of a ride.
+pub fn under_band()
+    ensures { λ _. ⌜ UnderBand ⌝ }
 {}
 
 // What the machine makes of some rides.

@@ -20,18 +20,18 @@ use Rattle.names.specs.Names.{asBytes, nameOk}
 use Rattle.codec.specs.Typed.{NameFits}
 use Rattle.codec.proofs.Names as names
 use Rattle.history.specs.declared.Record.{Record}
-use Rattle.history.specs.Record.{headBytes, textBytes, tallyBytes, bodyBytes, recordBytes, recordSize}
+use Rattle.history.specs.Record.{headBytes, textBytes, tallyBytes, bodyBytes, recordBytes, bodySize, recordSize}
 use Rattle.history.proofs.Bytes.{body-length}
 use Rattle.record_writer.specs.Write.{firstBytes, rideBytes, countBytes, timeBytes, writeAnswer, outputBy, outputOf}
 
--- the bytes of five numbers, and of equal ones
-abbrev pub timesOf : ℕ → ℕ → ℕ → ℕ → ℕ → List ℕ
-timesOf t i u o f = (((bytesOf 4 t ++ bytesOf 4 i) ++ bytesOf 4 u) ++ bytesOf 4 o) ++ bytesOf 2 f
+-- the bytes of six numbers, and of equal ones
+abbrev pub timesOf : ℕ → ℕ → ℕ → ℕ → ℕ → ℕ → List ℕ
+timesOf t i u o f n = ((((bytesOf 4 t ++ bytesOf 4 i) ++ bytesOf 4 u) ++ bytesOf 4 o) ++ bytesOf 2 f) ++ bytesOf 4 n
 
-pub times-same : (t i u o f : ℕ) {t' i' u' o' f' : ℕ} → t ≡ t' → i ≡ i' → u ≡ u' → o ≡ o' → f ≡ f' → timesOf t i u o f ≡ timesOf t' i' u' o' f'
-times-same t i u o f {t' = t'} {i' = i'} {u' = u'} {o' = o'} a b c d e =
-    ap (λ (x : ℕ). timesOf x i u o f) a ∙ ap (λ (x : ℕ). timesOf t' x u o f) b ∙ ap (λ (x : ℕ). timesOf t' i' x o f) c ∙ ap (λ (x : ℕ). timesOf t' i' u' x f) d
-    ∙ ap (λ (x : ℕ). timesOf t' i' u' o' x) e
+pub times-same : (t i u o f n : ℕ) {t' i' u' o' f' n' : ℕ} → t ≡ t' → i ≡ i' → u ≡ u' → o ≡ o' → f ≡ f' → n ≡ n' → timesOf t i u o f n ≡ timesOf t' i' u' o' f' n'
+times-same t i u o f n {t' = t'} {i' = i'} {u' = u'} {o' = o'} {f' = f'} a b c d e g =
+    ap (λ (x : ℕ). timesOf x i u o f n) a ∙ ap (λ (x : ℕ). timesOf t' x u o f n) b ∙ ap (λ (x : ℕ). timesOf t' i' x o f n) c ∙ ap (λ (x : ℕ). timesOf t' i' u' x f n) d
+    ∙ ap (λ (x : ℕ). timesOf t' i' u' o' x n) e ∙ ap (λ (x : ℕ). timesOf t' i' u' o' f' x) g
 
 -- a name that passes question 5 has zeros behind its bytes
 text-is : (n : Name) → NameFits n → nameOk n ≡ true → take 20 (n .bytes) ≡ textBytes n
@@ -94,15 +94,15 @@ body-written r d {d₂ = d₂} fits ok e₁ e₂ e₃ e₄ e₅ =
     (ap (λ (l : List ℕ). (((first ++ ride) ++ l) ++ counts) ++ timeBytes (r .summary)) (text-is (r .name) fits ok) ∙ body-is r)
 
 -- what the check word is taken of
-pub body-taken : (r : Record) (d : List ℕ) {d₁ : List ℕ} → d₁ ≡ written d 0 (bodyBytes r) → take 66 d₁ ≡ bodyBytes r
-body-taken r d e = ap (take 66) e ∙ take-written d 0 (bodyBytes r) 66 (omega arith) (omega (arith, body-length r))
+pub body-taken : (r : Record) (d : List ℕ) {d₁ : List ℕ} → d₁ ≡ written d 0 (bodyBytes r) → take bodySize d₁ ≡ bodyBytes r
+body-taken r d e = ap (take bodySize) e ∙ take-written d 0 (bodyBytes r) bodySize (omega arith) (omega (arith, body-length r))
 
 -- the check word behind the body
 pub record-written : (r : Record) (d : List ℕ) {d₁ d₂ : List ℕ} (c : ℕ) → d₁ ≡ written d 0 (bodyBytes r) → c ≡ checkOf (bodyBytes r)
-    → d₂ ≡ written d₁ 66 (bytesOf 4 c) → d₂ ≡ written d 0 (recordBytes r)
+    → d₂ ≡ written d₁ bodySize (bytesOf 4 c) → d₂ ≡ written d 0 (recordBytes r)
 unfolding recordBytes
 record-written r d c e f g =
-    more d 0 (omega arith) (bodyBytes r) (bytesOf 4 c) 66 (omega (arith, body-length r)) e g
+    more d 0 (omega arith) (bodyBytes r) (bytesOf 4 c) bodySize (omega (arith, body-length r)) e g
     ∙ ap (λ (x : ℕ). written d 0 (bodyBytes r ++ bytesOf 4 x)) f
 
 -- the writer's answers
@@ -120,9 +120,9 @@ module _ (r : Record) (out : List ℕ) where
   pub refused-name : nameOk (r .name) ≡ false → (Refused refusals.Field ≡ writeAnswer r (length out)) × (out ≡ outputOf r out)
   refused-name e = answered (Refused refusals.Field) (by-questions false (leb recordSize (length out)) e refl) out refl
 
-  pub no-room : nameOk (r .name) ≡ true → length out < 70 → (Refused refusals.Output ≡ writeAnswer r (length out)) × (out ≡ outputOf r out)
-  no-room e h = answered (Refused refusals.Output) (by-questions true false e (lt-leb 70 (length out) h)) out refl
+  pub no-room : nameOk (r .name) ≡ true → length out < recordSize → (Refused refusals.Output ≡ writeAnswer r (length out)) × (out ≡ outputOf r out)
+  no-room e h = answered (Refused refusals.Output) (by-questions true false e (lt-leb recordSize (length out) h)) out refl
 
-  pub written-whole : (next : List ℕ) → nameOk (r .name) ≡ true → 70 ≤ length out → next ≡ written out 0 (recordBytes r)
+  pub written-whole : (next : List ℕ) → nameOk (r .name) ≡ true → recordSize ≤ length out → next ≡ written out 0 (recordBytes r)
       → (Accepted ≡ writeAnswer r (length out)) × (next ≡ outputOf r out)
-  written-whole next e h f = answered Accepted (by-questions true true e (le-leb 70 (length out) h)) next f
+  written-whole next e h f = answered Accepted (by-questions true true e (le-leb recordSize (length out) h)) next f

@@ -17,7 +17,7 @@ use Rattle.state.specs.declared.Summary.{Summary}
 use Rattle.history.specs.declared.Record.{Record}
 use Rattle.history.specs.Record.{magic, version, bodySize, recordSize, flagsOf, startMs, millis, recordBytes}
 
--- "Output long enough (70 for a record)? 19."
+-- "Output long enough (70 for a record)? 19."; document 02, g: "question 19 asks 74 bytes for a record"
 unfoldable pub writeAnswer : Record → ℕ → Answer
 writeAnswer r room = ask (nameOk (r .name)) refusals.Field (ask (leb recordSize room) refusals.Output Accepted)
 
@@ -42,6 +42,7 @@ countBytes t s = (((testKind t ∷ []) ++ bytesOf 2 (s .«steps_done»)) ++ byte
 
 abbrev pub timeBytes : Summary → List ℕ
 timeBytes s =
-    (((bytesOf 4 (millis (s .«targeted_ms»)) ++ bytesOf 4 (millis (s .«in_ms»))) ++ bytesOf 4 (millis (s .«under_ms»)))
+    ((((bytesOf 4 (millis (s .«targeted_ms»)) ++ bytesOf 4 (millis (s .«in_ms»))) ++ bytesOf 4 (millis (s .«under_ms»)))
     ++ bytesOf 4 (millis (s .«over_ms»)))
-    ++ bytesOf 2 (orZero (s .ftp))
+    ++ bytesOf 2 (orZero (s .ftp)))
+    ++ bytesOf 4 (millis (s .«unread_ms»))

@@ -1,23 +1,23 @@
-// history.rs's `encode` into lent bytes: the 70 bytes of a record, or a refusal that leaves all bytes.
+// history.rs's `encode` into lent bytes: the 74 bytes of a record, or a refusal that leaves all bytes.
 ghost use mathlib.Core.Path.{_≡_};
 ghost use mathlib.Core.Bool.{true};
 ghost use Prim.Native.Nat.{_≤_};
 ghost use lib.ListN.{length};
 ghost use Rattle.le.specs.Le.{written};
 ghost use Rattle.names.specs.Names.{nameOk};
-ghost use Rattle.history.specs.Record.{isDated, startMs, flag, flagsOf, millis, bodyBytes, recordBytes};
+ghost use Rattle.history.specs.Record.{recordSize, isDated, startMs, flag, flagsOf, millis, bodyBytes, recordBytes};
 ghost use Rattle.record_writer.specs.Write.{firstBytes, rideBytes, countBytes, timeBytes, writeAnswer, outputOf};
+use history::BODY_V2;
 use history::Record;
 use history::StartOption;
+use history::VERSION_2;
 use model::Test;
 use refusal::Answer;
 use refusal::Refusal;
 use state::Summary;
 
-// The bytes of a record, and of its body before the check word.
-pub const RECORD_BYTES: usize = 70;
-
-const BODY: usize = 66;
+// The bytes of a record: its body and the check word.
+pub const RECORD_BYTES: usize = 74;
 
 fn is_dated(start: StartOption) -> bool
     ensures { λ r. ⌜ r ≡ isDated start ⌝ }
@@ -68,20 +68,20 @@ fn millis_of(ms: u64) -> u32
 
 // "VWKO", the version, and how many bytes stand before the check word.
 fn put_first(out: &mut [u8])
-    requires { ⌜ 70 ≤ length (now out) ⌝ }
+    requires { ⌜ recordSize ≤ length (now out) ⌝ }
     ensures { λ _. ⌜ now (out .exit) ≡ written (now (out .entry)) 0 firstBytes ⌝ }
 {
     le::put_u8(out, 0, 86);
     le::put_u8(out, 1, 87);
     le::put_u8(out, 2, 75);
     le::put_u8(out, 3, 79);
-    le::put_u8(out, 4, 1);
-    le::put_u8(out, 5, BODY as u8);
+    le::put_u8(out, 4, VERSION_2);
+    le::put_u8(out, 5, BODY_V2 as u8);
 }
 
 // Journal, flags, id, start and the name's length.
 fn put_ride(out: &mut [u8], stored: Record)
-    requires { ⌜ 70 ≤ length (now out) ⌝ }
+    requires { ⌜ recordSize ≤ length (now out) ⌝ }
     ensures { λ _. ⌜ now (out .exit) ≡ written (now (out .entry)) 6 (rideBytes stored) ⌝ }
 {
     let flags = flags_of(stored);
@@ -97,7 +97,7 @@ fn put_ride(out: &mut [u8], stored: Record)
 
 // Test and steps.
 fn put_counts(out: &mut [u8], test: Test, summary: Summary)
-    requires { ⌜ 70 ≤ length (now out) ⌝ }
+    requires { ⌜ recordSize ≤ length (now out) ⌝ }
     ensures { λ _. ⌜ now (out .exit) ≡ written (now (out .entry)) 41 (countBytes test summary) ⌝ }
 {
     let kind = encode::test_kind(test);
@@ -107,9 +107,9 @@ fn put_counts(out: &mut [u8], test: Test, summary: Summary)
     le::put_u16(out, 46, summary.skipped);
 }
 
-// Tallies and FTP.
+// Tallies, FTP and unread time.
 fn put_times(out: &mut [u8], summary: Summary)
-    requires { ⌜ 70 ≤ length (now out) ⌝ }
+    requires { ⌜ recordSize ≤ length (now out) ⌝ }
     ensures { λ _. ⌜ now (out .exit) ≡ written (now (out .entry)) 48 (timeBytes summary) ⌝ }
 {
     let ftp = summary.ftp;
@@ -119,11 +119,12 @@ fn put_times(out: &mut [u8], summary: Summary)
     le::put_u32(out, 56, millis_of(summary.under_ms));
     le::put_u32(out, 60, millis_of(summary.over_ms));
     le::put_u16(out, 64, watts);
+    le::put_u32(out, 66, millis_of(summary.unread_ms));
 }
 
 // All before the check word. A name that passes question 5 has zeros behind its bytes.
 fn put_body(out: &mut [u8], stored: Record)
-    requires { ⌜ (70 ≤ length (now out)) × (nameOk (stored .name) ≡ true) ⌝ }
+    requires { ⌜ (recordSize ≤ length (now out)) × (nameOk (stored .name) ≡ true) ⌝ }
     ensures { λ _. ⌜ now (out .exit) ≡ written (now (out .entry)) 0 (bodyBytes stored) ⌝ }
 {
     let name = stored.name;
@@ -138,12 +139,12 @@ fn put_body(out: &mut [u8], stored: Record)
 }
 
 fn put_record(out: &mut [u8], stored: Record)
-    requires { ⌜ (70 ≤ length (now out)) × (nameOk (stored .name) ≡ true) ⌝ }
+    requires { ⌜ (recordSize ≤ length (now out)) × (nameOk (stored .name) ≡ true) ⌝ }
     ensures { λ _. ⌜ now (out .exit) ≡ written (now (out .entry)) 0 (recordBytes stored) ⌝ }
 {
     put_body(out, stored);
-    let check = checksum::crc32(&out[..BODY]);
-    le::put_u32(out, BODY, check);
+    let check = checksum::crc32(&out[..BODY_V2]);
+    le::put_u32(out, BODY_V2, check);
 }
 
 // Asks 5 of the name, then 19, and writes exactly the record; refused, it leaves all bytes.

@@ -48,7 +48,7 @@ questionNumber SheetLength = 16
 questionNumber Act = 17
 -- "Record readable by `decode`? 18"
 questionNumber Record = 18
--- "Output long enough (70 for a record)? 19"
+-- "Output long enough (70 for a record)? 19"; 74 by document 02, g
 questionNumber Output = 19
 -- "Player handed in standing? 20"
 questionNumber Standing = 20

@@ -218,13 +218,13 @@ module _ (file s : List ℕ) (room : ℕ) where
         past-sheet : riddenOf file s room ≡ last
         past-sheet = past-new ∙ not-refused (checkOf s) last g
 
-        pub no-room : room < 70 → nothingRidden (refusedAt refusals.Output None) ≡ riddenOf file s room
+        pub no-room : room < recordSize → nothingRidden (refusedAt refusals.Output None) ≡ riddenOf file s room
         no-room h =
-            sym (past-sheet ∙ ap (λ (b : Bool). unlessRefused (atNoAct (ask b refusals.Output Accepted)) (playSheet (made .player) s)) (lt-leb 70 room h))
+            sym (past-sheet ∙ ap (λ (b : Bool). unlessRefused (atNoAct (ask b refusals.Output Accepted)) (playSheet (made .player) s)) (lt-leb recordSize room h))
 
-        pub acts-played : 70 ≤ room → playSheet (made .player) s ≡ riddenOf file s room
+        pub acts-played : recordSize ≤ room → playSheet (made .player) s ≡ riddenOf file s room
         acts-played h =
-            sym (past-sheet ∙ ap (λ (b : Bool). unlessRefused (atNoAct (ask b refusals.Output Accepted)) (playSheet (made .player) s)) (le-leb 70 room h))
+            sym (past-sheet ∙ ap (λ (b : Bool). unlessRefused (atNoAct (ask b refusals.Output Accepted)) (playSheet (made .player) s)) (le-leb recordSize room h))
 
   abbrev acts : List Act
   acts = actsFrom s (countIn s) 1 (countIn s - 1)

@@ -66,7 +66,7 @@ tally-sum (how.Some Over) ms s h = omega arith
 
 -- what a part leaves of the summary
 pub record Tallied (ms : ℕ) (s t : Summary) : Type 0 where
-  pub targeted : t .«targeted_ms» ≤ s .«targeted_ms» + ms
+  pub targeted : t .«targeted_ms» + t .«unread_ms» ≤ s .«targeted_ms» + s .«unread_ms» + ms
   pub done : t .«steps_done» ≡ s .«steps_done»
   pub steps : t .steps ≡ s .steps
   pub skipped : t .skipped ≡ s .skipped

@@ -85,6 +85,7 @@ module _ (w : Workout) (s : Ride) (ks vs : ℕ) (r : Rides w s ks vs) (on : isSt
               inside = omega (arith, h .targeted, h .total-ms, h .tallies);
               under = omega (arith, h .targeted, h .total-ms, h .tallies);
               over = omega (arith, h .targeted, h .total-ms, h .tallies);
+              unread = omega (arith, h .targeted, h .total-ms);
             };
         measure =
             record {

@@ -23,7 +23,7 @@ withAmounts ms mm lap c =
 
 -- What the amounts have to keep within the totals, with x ms and y mm still to be ridden.
 pub record Amounts (x y ms mm : ℕ) (lap : Lap) (c : Core) : Type 0 where
-  pub targeted : c .summary .«targeted_ms» + x ≤ ms
+  pub targeted : c .summary .«targeted_ms» + c .summary .«unread_ms» + x ≤ ms
   pub step-ms : lap .«step_ms» + x ≤ ms
   pub step-mm : lap .«step_mm» + y ≤ mm
   pub test-ms : c .measured .«test_ms» + x ≤ ms

@@ -106,7 +106,7 @@ module _ (w : Workout) (c : Core) where
       let totals = row-holds (leb total 604800000) totalsTests (and-left (totalsOk c) inner e) in
       let h = row-holds (countsOk n c) innerTests (and-right (totalsOk c) inner e) in
       let counts = row-holds (eqb (c .steps) n) countsTests (h .0) in
-      let most = leb (s .«targeted_ms») total in
+      let most = leb (s .«targeted_ms» + s .«unread_ms») total in
       let sum = eqb (s .«in_ms» + s .«under_ms» + s .«over_ms») (s .«targeted_ms») in
       let energy = row (leb (m .«test_mj») (65535 * m .«test_ms»)) measuredTests in
       let within-total = leb (m .«test_ms») total in
@@ -126,7 +126,7 @@ module _ (w : Workout) (c : Core) where
               finished = same-bool (s .finished) (c .done) (counts .1 .1 .1 .1 .1 .1 .0);
               step = step;
               tallies = eqb-true (s .«in_ms» + s .«under_ms» + s .«over_ms») (s .«targeted_ms») (and-right most sum (h .1 .1 .0));
-              targeted = omega (arith, leb-true (s .«targeted_ms») total (and-left most sum (h .1 .1 .0)));
+              targeted = omega (arith, leb-true (s .«targeted_ms» + s .«unread_ms») total (and-left most sum (h .1 .1 .0)));
               step-ms = omega (arith, leb-true (c .lap .«step_ms») total (totals .1 .1 .0));
               step-mm = omega (arith, leb-true (c .lap .«step_mm») (c .«total_mm» .0) (totals .1 .1 .1 .0));
               energy = leb-true (m .«test_mj») (65535 * m .«test_ms») (measured .0);
@@ -152,7 +152,7 @@ module _ (w : Workout) (c : Core) where
       let r = c .readings in
       let totals = holds-row (leb total 604800000) totalsTests (le-leb total 604800000 (f .total-ms), (le-leb (c .«total_mm» .0) 7000000000 (f .total-mm), (le-leb (c .lap .«step_ms») total (omega (arith, f .step-ms)), (le-leb (c .lap .«step_mm») (c .«total_mm» .0) (omega (arith, f .step-mm)), tt)))) in
       let counts = holds-row (eqb (c .steps) n) countsTests (eq-eqb (c .steps) n (f .steps), (eq-eqb (s .steps) n (f .summary-steps), (eq-eqb (s .«steps_done») (c .position) (f .steps-done), (le-leb (s .skipped) (c .position) (f .skipped), (le-leb (c .position) n (f .position), (bool-same (c .done) (leb n (c .position)) (f .done), (bool-same (s .finished) (c .done) (f .finished), tt))))))) in
-      let tallies = and-both (le-leb (s .«targeted_ms») total (omega (arith, f .targeted))) (eq-eqb (s .«in_ms» + s .«under_ms» + s .«over_ms») (s .«targeted_ms») (f .tallies)) in
+      let tallies = and-both (le-leb (s .«targeted_ms» + s .«unread_ms») total (omega (arith, f .targeted))) (eq-eqb (s .«in_ms» + s .«under_ms» + s .«over_ms») (s .«targeted_ms») (f .tallies)) in
       let measured = and-both (le-leb (m .«test_ms») total (omega (arith, f .test-ms))) (holds-row (leb (m .«test_mj») (65535 * m .«test_ms»)) measuredTests (le-leb (m .«test_mj») (65535 * m .«test_ms») (f .energy), (le-leb (m .«ramp_low_ms») total (omega (arith, f .low)), (lt-ltb (m .«minute_rest_ms») 1000 (f .rest), (lt-ltb (m .ring .«minute_at») 60 (f .place), (le-leb (m .ring .«minute_len») 60 (f .long), tt)))))) in
       let readings = and-both (f .cadence) (lt-ltb (r .power .next) 3 (f .next)) in
       and-both totals (holds-row (countsOk n c) innerTests (counts, (k .lap, (tallies, (measured, (readings, tt))))))

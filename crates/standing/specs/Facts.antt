@@ -24,7 +24,7 @@ pub record Within (x y : ℕ) (w : Workout) (c : Core) : Type 0 where
   pub finished : c .summary .finished ≡ c .done
   pub step : sameStep (c .on) (stepNow (playedOf w (onPlace c) .played)) ≡ true
   pub tallies : c .summary .«in_ms» + c .summary .«under_ms» + c .summary .«over_ms» ≡ c .summary .«targeted_ms»
-  pub targeted : c .summary .«targeted_ms» + x ≤ c .«total_ms» .0
+  pub targeted : c .summary .«targeted_ms» + c .summary .«unread_ms» + x ≤ c .«total_ms» .0
   pub step-ms : c .lap .«step_ms» + x ≤ c .«total_ms» .0
   pub step-mm : c .lap .«step_mm» + y ≤ c .«total_mm» .0
   pub energy : SmallEnergy (c .measured)

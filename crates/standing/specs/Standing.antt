@@ -91,9 +91,9 @@ totalsOk c =
     leb (c .«total_ms» .0) 604800000 && leb (c .«total_mm» .0) 7000000000 && leb (c .lap .«step_ms») (c .«total_ms» .0)
     && leb (c .lap .«step_mm») (c .«total_mm» .0)
 
--- "in + under + over = targeted ≤ total ms"
+-- "in + under + over = targeted ≤ total ms"; document 02, g: "a standing player has targeted plus unread within its total ms"
 abbrev pub talliesOk : Summary → ℕ → Bool
-talliesOk s total = leb (s .«targeted_ms») total && eqb (s .«in_ms» + s .«under_ms» + s .«over_ms») (s .«targeted_ms»)
+talliesOk s total = leb (s .«targeted_ms» + s .«unread_ms») total && eqb (s .«in_ms» + s .«under_ms» + s .«over_ms») (s .«targeted_ms»)
 
 -- "`test_mj` ≤ 65,535 × `test_ms`; test and low times within totals", "ring places under 60, ring length at most 60, rest under 1,000"
 abbrev pub measuredOk : Measured → ℕ → Bool

@@ -158,7 +158,7 @@ fn totals_ok(core: Core) -> bool
         & (lap.step_mm <= core.total_mm.0)
 }
 
-// The three parts are asked one by one first, so that their sum does not wrap.
+// Unread is asked before it is taken from the total, and the three parts one by one before they are summed, so that nothing wraps.
 fn tallies_ok(summary: Summary, total_ms: u64) -> bool
     requires { ⌜ «total_ms» ≤ 604800000 ⌝ }
     ensures { λ r. ⌜ r ≡ talliesOk summary «total_ms» ⌝ }
@@ -167,7 +167,11 @@ fn tallies_ok(summary: Summary, total_ms: u64) -> bool
     let inside = summary.in_ms;
     let under = summary.under_ms;
     let over = summary.over_ms;
-    if total_ms < targeted {
+    let unread = summary.unread_ms;
+    if total_ms < unread {
+        return false;
+    }
+    if total_ms - unread < targeted {
         return false;
     }
     if targeted < inside {

@@ -26,6 +26,7 @@ noSummary steps =
       «in_ms» = 0;
       «under_ms» = 0;
       «over_ms» = 0;
+      «unread_ms» = 0;
       ftp = None;
       «steps_done» = 0;
       steps = steps;

@@ -34,6 +34,7 @@ pub fn no_summary(steps: u16) -> Summary
         in_ms: 0,
         under_ms: 0,
         over_ms: 0,
+        unread_ms: 0,
         ftp: ReadingOption::None,
         steps_done: 0,
         steps,

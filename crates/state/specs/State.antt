@@ -30,13 +30,14 @@ inTargetPct s =
     (Some ((s .«in_ms» * 100 + s .«targeted_ms» / 2) / s .«targeted_ms»))
 
 -- The summary with other tallies.
-abbrev pub withTallies : Summary → ℕ → ℕ → ℕ → ℕ → Summary
-withTallies s targeted inside under over =
+abbrev pub withTallies : Summary → ℕ → ℕ → ℕ → ℕ → ℕ → Summary
+withTallies s targeted inside under over unread =
     record {
       «targeted_ms» = targeted;
       «in_ms» = inside;
       «under_ms» = under;
       «over_ms» = over;
+      «unread_ms» = unread;
       ftp = s .ftp;
       «steps_done» = s .«steps_done»;
       steps = s .steps;
@@ -44,13 +45,14 @@ withTallies s targeted inside under over =
       finished = s .finished;
     }
 
--- "with a band and its reading present .., one to targeted and one to in, under or over", for some milliseconds at once
+-- "with a band and its reading present .., one to targeted and one to in, under or over", for some milliseconds at once. Document 02,
+-- g: "The summary gains unread milliseconds: a band stood, its reading was absent."
 unfoldable pub tallied : ComplianceOption → ℕ → Summary → Summary
 tallied NoBand ms s = s
-tallied NoReading ms s = s
-tallied (how.Some Under) ms s = withTallies s (s .«targeted_ms» + ms) (s .«in_ms») (s .«under_ms» + ms) (s .«over_ms»)
-tallied (how.Some In) ms s = withTallies s (s .«targeted_ms» + ms) (s .«in_ms» + ms) (s .«under_ms») (s .«over_ms»)
-tallied (how.Some Over) ms s = withTallies s (s .«targeted_ms» + ms) (s .«in_ms») (s .«under_ms») (s .«over_ms» + ms)
+tallied NoReading ms s = withTallies s (s .«targeted_ms») (s .«in_ms») (s .«under_ms») (s .«over_ms») (s .«unread_ms» + ms)
+tallied (how.Some Under) ms s = withTallies s (s .«targeted_ms» + ms) (s .«in_ms») (s .«under_ms» + ms) (s .«over_ms») (s .«unread_ms»)
+tallied (how.Some In) ms s = withTallies s (s .«targeted_ms» + ms) (s .«in_ms» + ms) (s .«under_ms») (s .«over_ms») (s .«unread_ms»)
+tallied (how.Some Over) ms s = withTallies s (s .«targeted_ms» + ms) (s .«in_ms») (s .«under_ms») (s .«over_ms» + ms) (s .«unread_ms»)
 
 -- What `tally` supposes: none of its sums passes the limit of the totals.
 pub record TallyFits (s : Summary) (ms : ℕ) : Type 0 where
@@ -58,6 +60,7 @@ pub record TallyFits (s : Summary) (ms : ℕ) : Type 0 where
   pub inside : s .«in_ms» + ms ≤ 604800000
   pub under : s .«under_ms» + ms ≤ 604800000
   pub over : s .«over_ms» + ms ≤ 604800000
+  pub unread : s .«unread_ms» + ms ≤ 604800000
 
 -- The step on now.
 

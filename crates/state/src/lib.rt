@@ -40,6 +40,8 @@ pub struct Summary {
     pub in_ms: u64,
     pub under_ms: u64,
     pub over_ms: u64,
+    // Recorded time with a target whose reading was absent.
+    pub unread_ms: u64,
     // What a test measured, saved or not.
     pub ftp: ReadingOption,
     // Played steps finished, skipped ones included.
@@ -128,7 +130,7 @@ impl Summary {
         PctOption::Some(((inside * 100 + targeted / 2) / targeted) as u8)
     }
 
-    // `ms` of riding with this compliance. Without a band or its reading nothing is targeted.
+    // `ms` of riding with this compliance: targeted, unread where the band has no reading, and neither without a band.
     pub fn tally(self, compliance: ComplianceOption, ms: u64) -> Summary
         requires { ⌜ TallyFits self ms ⌝ }
         ensures { λ r. ⌜ r ≡ tallied compliance ms self ⌝ }
@@ -136,7 +138,10 @@ impl Summary {
         let mut q = self;
         match compliance {
             ComplianceOption::NoBand => q,
-            ComplianceOption::NoReading => q,
+            ComplianceOption::NoReading => {
+                q.unread_ms = q.unread_ms + ms;
+                q
+            }
             ComplianceOption::Some(how) => {
                 q.targeted_ms = q.targeted_ms + ms;
                 match how {

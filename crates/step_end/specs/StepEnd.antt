@@ -73,6 +73,7 @@ endedSummary last skipped result s =
       «in_ms» = s .«in_ms»;
       «under_ms» = s .«under_ms»;
       «over_ms» = s .«over_ms»;
+      «unread_ms» = s .«unread_ms»;
       ftp = orElse result (s .ftp);
       «steps_done» = s .«steps_done» + 1;
       steps = s .steps;

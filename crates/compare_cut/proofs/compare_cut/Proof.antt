@@ -1,4 +1,4 @@
--- `compare_cut::compare_cut` fills the places lent. The invariant: the first i hold their words, and the player is that after i / 11 calls.
+-- `compare_cut::compare_cut` fills the places lent. The invariant: the first i hold their words, and the player is that after i / 13 calls.
 use mathlib.Core.Path.{_≡_, _∙_, refl, ap}
 use Prim.Native.Nat.{_≤_, _-_, _/_, min}
 use native.Mathlib.Omega.{arith}
@@ -16,7 +16,7 @@ use Rattle.compare_cut.proofs.compare_cut.Tie as tie
 
 abbrev Inv-loop : tie.InvT-loop
 Inv-loop file calls answer₀ n seen₀ i₀ answer seen i =
-    (i ≤ n) × ((length answer ≡ length answer₀) × ((answer ≡ filled (wordAfter file calls) answer₀ i) × (seen ≡ cutAfter file calls (i / 11))))
+    (i ≤ n) × ((length answer ≡ length answer₀) × ((answer ≡ filled (wordAfter file calls) answer₀ i) × (seen ≡ cutAfter file calls (i / 13))))
 
 abbrev μ-loop : tie.MeasureT-loop
 μ-loop file calls answer₀ n seen₀ i₀ answer seen i = n - i

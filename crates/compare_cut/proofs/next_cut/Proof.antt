@@ -1,4 +1,4 @@
--- `compare_cut::next_cut` plays the next call after the last of 11 words.
+-- `compare_cut::next_cut` plays the next call after the last of 13 words.
 use borrow.Author.Tests.{eq-eqb, ne-eqb}
 use borrow.Author.Needs.{needs}
 use Rattle.compare_cut.specs.Cuts.{nextCut}

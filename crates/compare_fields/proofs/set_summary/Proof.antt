@@ -51,7 +51,11 @@ returns-8 c = rw (c .match .keys8)
 
 returns-9 : tie.Need-returns-9
 unfolding setSummary
-returns-9 c = let a = c .before .before .args in rw (c .low164 .ensures) (past (firstSummary (a .summary) (a .value)) (a .at) (lastSummary (a .summary) (a .value)) (at-least 8 _ (c .before .match .rest)))
+returns-9 c = rw (c .match .keys9)
+
+returns-10 : tie.Need-returns-10
+unfolding setSummary
+returns-10 c = let a = c .before .before .args in rw (c .low164 .ensures) (past (firstSummary (a .summary) (a .value)) (a .at) (lastSummary (a .summary) (a .value)) (at-least 9 _ (c .before .match .rest)))
 
 pub set-summary-spec : {M : Type 1} → statement M
 set-summary-spec =
@@ -69,4 +73,5 @@ set-summary-spec =
     returns-6
     returns-7
     returns-8
-    returns-9)
+    returns-9
+    returns-10)

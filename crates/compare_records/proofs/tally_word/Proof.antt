@@ -19,6 +19,9 @@ half-word-requires-3 c κs = search needs
 half-word-requires-4 : tie.Need-half-word-requires-4
 half-word-requires-4 c κs = search needs
 
+half-word-requires-5 : tie.Need-half-word-requires-5
+half-word-requires-5 c κs = search needs
+
 returns : tie.Need-returns
 unfolding tallyWord
 returns c = rw (c .before .match .keys1) (c .half-word .ensures)
@@ -33,7 +36,11 @@ returns-3 c = rw (c .before .match .keys3) (c .half-word3 .ensures)
 
 returns-4 : tie.Need-returns-4
 unfolding tallyWord
-returns-4 c = let a = c .before .before .args in c .half-word4 .ensures ∙ ap (λ (n : ℕ). halfWord n (a .place % 2)) (past (tallies (a .summary)) (a .place / 2) (a .summary .«over_ms») (at-least 3 _ (c .before .match .rest)))
+returns-4 c = rw (c .before .match .keys4) (c .half-word4 .ensures)
+
+returns-5 : tie.Need-returns-5
+unfolding tallyWord
+returns-5 c = let a = c .before .before .args in c .half-word5 .ensures ∙ ap (λ (n : ℕ). halfWord n (a .place % 2)) (past (tallies (a .summary)) (a .place / 2) (a .summary .«unread_ms») (at-least 4 _ (c .before .match .rest)))
 
 pub tally-word-spec : {M : Type 1} → statement M
 tally-word-spec =
@@ -43,7 +50,9 @@ tally-word-spec =
     half-word-requires-2
     half-word-requires-3
     half-word-requires-4
+    half-word-requires-5
     returns
     returns-2
     returns-3
-    returns-4)
+    returns-4
+    returns-5)

@@ -34,6 +34,9 @@ get-u32-requires-4 c κs = search needs
 cast-t12 : tie.Need-cast-t12
 cast-t12 c = search needs
 
+read-unread-requires : tie.Need-read-unread-requires
+read-unread-requires c κs = search needs
+
 is-set-requires : tie.Need-is-set-requires
 is-set-requires c κs = search needs
 
@@ -57,7 +60,7 @@ is-set-requires-2 c κs = search needs
 
 returns : tie.Need-returns
 unfolding summaryIn
-returns c = simp (c .is-set2 .ensures, c .before .get-u164 .ensures, c .before .before .get-u163 .ensures, c .before .before .before .get-u162 .ensures, c .before .before .before .before .reading-at .ensures, c .before .before .before .before .before .get-u16 .ensures, c .before .before .before .before .before .before .is-set .ensures, c .before .before .before .before .before .before .before .get-u324 .ensures, c .before .before .before .before .before .before .before .before .get-u323 .ensures, c .before .before .before .before .before .before .before .before .before .get-u322 .ensures, c .before .before .before .before .before .before .before .before .before .before .get-u32 .ensures, c .before .before .before .before .before .before .before .before .before .before .before .flags-of .ensures)
+returns c = simp (c .is-set2 .ensures, c .before .get-u164 .ensures, c .before .before .get-u163 .ensures, c .before .before .before .get-u162 .ensures, c .before .before .before .before .reading-at .ensures, c .before .before .before .before .before .get-u16 .ensures, c .before .before .before .before .before .before .is-set .ensures, c .before .before .before .before .before .before .before .read-unread .ensures, c .before .before .before .before .before .before .before .before .get-u324 .ensures, c .before .before .before .before .before .before .before .before .before .get-u323 .ensures, c .before .before .before .before .before .before .before .before .before .before .get-u322 .ensures, c .before .before .before .before .before .before .before .before .before .before .before .get-u32 .ensures, c .before .before .before .before .before .before .before .before .before .before .before .before .flags-of .ensures)
 
 pub read-summary-spec : {M : Type 1} → statement M
 read-summary-spec =
@@ -73,6 +76,7 @@ read-summary-spec =
     cast-t10
     get-u32-requires-4
     cast-t12
+    read-unread-requires
     is-set-requires
     get-u16-requires
     reading-at-requires

@@ -5,12 +5,12 @@ use Rattle.checksum.specs.V42.{add, remainder, digits, bits, frameCheck, number
 use Rattle.names.specs.Names.{nameFrom}
 use Rattle.decode.specs.Decode.{testOf}
 use Rattle.history.specs.Record.{flagsOf, headBytes, textBytes, tallyBytes, bodyBytes, recordBytes}
-use Rattle.history.specs.Decode.{isWhole, nameIn, summaryIn, recordIn, decodeOf}
+use Rattle.history.specs.Decode.{isWhole, nameIn, unreadIn, summaryIn, recordIn, decodeOf}
 use Rattle.history.proofs.rust_samples.Statement.{statement}
 use Rattle.history.proofs.rust_samples.Tie as tie
 
 returns : tie.Need-returns
-unfolding numberOf nameFrom testOf isWhole nameIn summaryIn recordIn decodeOf bytesOf add remainder digits bits frameCheck number checkOf flagsOf headBytes textBytes tallyBytes bodyBytes recordBytes
+unfolding numberOf nameFrom testOf isWhole nameIn unreadIn summaryIn recordIn decodeOf bytesOf add remainder digits bits frameCheck number checkOf flagsOf headBytes textBytes tallyBytes bodyBytes recordBytes
 returns c =
     record {
       written-0 = refl;
@@ -32,6 +32,11 @@ returns c =
       read-6 = refl;
       read-7 = refl;
       read-8 = refl;
+      read-9 = refl;
+      read-10 = refl;
+      read-11 = refl;
+      read-12 = refl;
+      read-13 = refl;
     }
 
 pub rust-samples-spec : {M : Type 1} → statement M

@@ -34,8 +34,8 @@ same-length c = search needs
 
 returns : tie.Need-returns
 returns c = let d = now (c .before .before .before .before .before .before .before .before .before .before .before .before .before .before .before .before .before .before .before .before .before .before .before .before .before .args .out) in
-    more d 0 (omega arith) (86 ∷ 87 ∷ 75 ∷ 79 ∷ 1 ∷ []) (66 ∷ []) 5 refl
-    (more d 0 (omega arith) (86 ∷ 87 ∷ 75 ∷ 79 ∷ []) (1 ∷ []) 4 refl
+    more d 0 (omega arith) (86 ∷ 87 ∷ 75 ∷ 79 ∷ 2 ∷ []) (70 ∷ []) 5 refl
+    (more d 0 (omega arith) (86 ∷ 87 ∷ 75 ∷ 79 ∷ []) (2 ∷ []) 4 refl
     (more d 0 (omega arith) (86 ∷ 87 ∷ 75 ∷ []) (79 ∷ []) 3 refl
     (more d 0 (omega arith) (86 ∷ 87 ∷ []) (75 ∷ []) 2 refl
     (more d 0 (omega arith) (86 ∷ []) (87 ∷ []) 1 refl (c .before .before .before .before .before .before .before .before .before .before .before .before .before .before .before .before .before .before .before .before .before .before .put-u8 .ensures) (c .before .before .before .before .before .before .before .before .before .before .before .before .before .before .before .before .before .before .put-u82 .ensures))

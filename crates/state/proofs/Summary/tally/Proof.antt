@@ -10,29 +10,32 @@ enum-told c = search needs
 enum-told-2 : tie.Need-enum-told-2
 enum-told-2 c = search needs
 
-enum-known-compliance : tie.Need-enum-known-compliance
-enum-known-compliance c = search needs
-
 add-q : tie.Need-add-q
 add-q c = search needs
 
-enum-told-3 : tie.Need-enum-told-3
-enum-told-3 c = search needs
+enum-known-compliance : tie.Need-enum-known-compliance
+enum-known-compliance c = search needs
 
 add-q-2 : tie.Need-add-q-2
 add-q-2 c = search needs
 
-enum-told-4 : tie.Need-enum-told-4
-enum-told-4 c = search needs
+enum-told-3 : tie.Need-enum-told-3
+enum-told-3 c = search needs
 
 add-q-3 : tie.Need-add-q-3
 add-q-3 c = search needs
 
-enum-told-5 : tie.Need-enum-told-5
-enum-told-5 c = search needs
+enum-told-4 : tie.Need-enum-told-4
+enum-told-4 c = search needs
 
 add-q-4 : tie.Need-add-q-4
 add-q-4 c = search needs
+
+enum-told-5 : tie.Need-enum-told-5
+enum-told-5 c = search needs
+
+add-q-5 : tie.Need-add-q-5
+add-q-5 c = search needs
 
 returns : tie.Need-returns
 unfolding tallied
@@ -40,7 +43,7 @@ returns c = simp (c .enum-told .given .1)
 
 returns-2 : tie.Need-returns-2
 unfolding tallied
-returns-2 c = simp (c .enum-told2 .given .1)
+returns-2 c = simp (c .before .enum-told2 .given .1)
 
 returns-3 : tie.Need-returns-3
 unfolding tallied
@@ -60,14 +63,15 @@ tally-spec =
     (tie.spec
     enum-told
     enum-told-2
-    enum-known-compliance
     add-q
-    enum-told-3
+    enum-known-compliance
     add-q-2
-    enum-told-4
+    enum-told-3
     add-q-3
-    enum-told-5
+    enum-told-4
     add-q-4
+    enum-told-5
+    add-q-5
     returns
     returns-2
     returns-3
