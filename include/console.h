@@ -13,7 +13,8 @@
 extern "C" {
 #endif
 
-/* The bytes of a ride record: `replay` writes so many, or none. */
+/* The bytes of a ride record, version 2: `replay` writes so many, or none. Version 1 had 70; a caller that still lends 70 is refused
+ * by 19. */
 #define REPLAY_RECORD_LENGTH 74
 /* The longest workout file, and the longest ride sheet (4,096 acts), in bytes. Longer ones are refused by 1 and 16. */
 #define REPLAY_WORKOUT_MOST 475

@@ -24,7 +24,7 @@ ghost use Prim.Native.Nat.{_≤_, _<_};
 ghost use lib.ListN.{length, getD};
 ghost use Rattle.power.specs.Power.{orZero};
 ghost use Rattle.history.specs.Record.{startAt, startMs, RecordSize};
-ghost use Rattle.history.specs.Decode.{begins, isWhole, nameIn, leastSize, unreadIn, summaryIn, recordIn, noRecord, decodeOf};
+ghost use Rattle.history.specs.Decode.{leastSize, begins, isWhole, nameIn, unreadIn, summaryIn, recordIn, noRecord, decodeOf};
 ghost use Rattle.history.specs.Samples.{Samples};
 ghost use Rattle.history.specs.Unread.{UnreadByVersion};
 ghost use Rattle.history.specs.RoundTrip.{RecordTyped, WrittenIsRead, ReadFits};
