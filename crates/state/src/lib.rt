@@ -35,13 +35,13 @@ pub enum PctOption {
 
 // How the whole workout went so far, for the ride summary.
 pub struct Summary {
+    // Recorded time with a target whose reading was absent. It stands first for the time that a replay takes (docs/TIMES.md).
+    pub unread_ms: u64,
     // Recorded time with a target and a reading, and its split.
     pub targeted_ms: u64,
     pub in_ms: u64,
     pub under_ms: u64,
     pub over_ms: u64,
-    // Recorded time with a target whose reading was absent.
-    pub unread_ms: u64,
     // What a test measured, saved or not.
     pub ftp: ReadingOption,
     // Played steps finished, skipped ones included.
