@@ -13,7 +13,7 @@ Code, strings and paths of files stay as they are; of a comment only what stands
 import os
 import re
 
-IDENT = re.compile(r"[A-Za-z_][\w'ℕℤ₀-₉-]*")
+IDENT = re.compile(r"(?<![\w'])[A-Za-z_][\w'ℕℤ₀-₉-]*")
 CAMEL = re.compile(r"^[a-z][a-z0-9]*(?:[A-Z][a-z0-9]*)+['₀-₉]*$")
 DEFINED = re.compile(r"^ *(?:(?:unfoldable|abbrev|pub) )*([A-Za-z][\w'ℕ-]*) :", re.M)
 

@@ -1,4 +1,6 @@
 // The 32-bit check of ITU-T V.42, as firmware_services::checksum has it: a register driven by a table, byte by byte.
+#![tactic(auto)]
+
 mod table;
 
 ghost use Rattle.std.specs.Prelude.{◌≡◌, [], ◌∷◌};

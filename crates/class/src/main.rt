@@ -1,5 +1,6 @@
 // Request l as a console uses it: four bikes in a full class, the supply short, then one finishes. A line for each says what the four
 // brakes may draw. The numbers are proved too: `frame_records::full_class`.
+#![tactic(auto)]
 ghost use Rattle.std.specs.Prelude.{◌≡◌, ◌<◌};
 ghost use Rattle.frame.specs.Frame.{four_grants};
 ghost use Rattle.model.specs.declared.Length.TheVariants.{Time};

@@ -1,5 +1,6 @@
 // Replays a workout file and a ride sheet by the call of crate `console`, and answers with words, for tests only
 // (tests/oracle/list.rs has the layout); and a word of the answer to any question of the fixed lists.
+#![tactic(auto)]
 ghost use Rattle.std.specs.Prelude.{◌≡◌};
 ghost use Rattle.compare_replay.specs.Replays.{given_at, word_of, replay_word, any_word};
 
@@ -7,7 +8,7 @@ use common::least;
 use compare::word_at;
 
 // What a replay is handed besides the bytes of workout and sheet.
-#[derive(Drop)]
+#[derive(Clone, Copy, Drop)]
 struct Given {
     journal: u8,
     id: u32,

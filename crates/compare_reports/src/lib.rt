@@ -1,5 +1,6 @@
 // What a player's call gave and what the reports say after it, as the words that the Rust's are compared with
 // (tests/oracle/played.rs has the layout), for tests only.
+#![tactic(auto)]
 ghost use Rattle.std.specs.Prelude.{◌≡◌, cond, ◌%◌};
 ghost use Rattle.compare_reports.specs.Words.{reading_word, pct_word, summary_word, given_word, has_secs, secs_value, amount_word, compliance_word, left_kind, left_value, readout_kind, readout_value, shown_word, now_word, reported_of, seen_word};
 
@@ -15,7 +16,7 @@ use zones::TrainingProfile;
 
 // What a call gave but for the player: the number of its refusal, how many events and parts, a check word of the events, and
 // whether it extended a step.
-#[derive(Drop)]
+#[derive(Clone, Copy, Drop)]
 pub struct Given {
     pub number: u32,
     pub events: u32,
@@ -25,7 +26,7 @@ pub struct Given {
 }
 
 // The reports on a player.
-#[derive(Drop)]
+#[derive(Clone, Copy, Drop)]
 pub struct Reported {
     pub summary: SummaryRead,
     pub remaining: RemainingRead,

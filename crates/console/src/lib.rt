@@ -1,6 +1,7 @@
 // Document 01: "a call by which the console's C program hands in workout and sheet bytes with journal, id, start time and a yes or no
 // for whether it is dated .., and gets the record, or the refusal's number and, where it names one, its act". include/console.h has
 // its C header.
+#![tactic(auto)]
 ghost use Rattle.std.specs.Prelude.{◌≡◌, length};
 ghost use Rattle.replay.specs.Replay.{replay_answer, replay_output};
 ghost use Rattle.console.specs.Console.{act_number, replayed_of, is_yes};
@@ -12,7 +13,7 @@ pub const NO_ACT: u32 = 4294967295;
 
 // The number of the question that refused, 0 if none did, and the act that it names.
 #[repr(C)]
-#[derive(Drop)]
+#[derive(Clone, Copy, Drop)]
 pub struct Replayed {
     pub refusal: u32,
     pub act: u32,

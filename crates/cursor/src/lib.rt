@@ -1,5 +1,6 @@
 // codec.rs's reader as a by-value cursor over a slice: it hands out the next bytes or says that they end. `Reader` itself, which
 // holds the slice, is a thin form over it.
+#![tactic(auto)]
 ghost use Rattle.std.specs.Prelude.{◌≡◌, ◌∷◌, ◌+◌, ◌-◌, ◌≤◌, length, take, drop};
 ghost use Rattle.common.specs.Lists.{all, padded};
 ghost use Rattle.names.specs.Names.{allowed};
@@ -9,27 +10,27 @@ ghost use Rattle.cursor.specs.Reading.{Read};
 use names::{Name, allowed_byte};
 use refusal::{Answer, Refusal};
 
-#[derive(Drop)]
+#[derive(Clone, Copy, Drop)]
 pub struct Cursor {
     pub at: usize,
 }
 
 // The place of the next bytes, and the cursor past them.
-#[derive(Drop)]
+#[derive(Clone, Copy, Drop)]
 pub enum Taken {
     Bytes(usize, Cursor),
     End,
 }
 
 // The next byte, and the cursor past it.
-#[derive(Drop)]
+#[derive(Clone, Copy, Drop)]
 pub enum NextByte {
     Byte(u8, Cursor),
     End,
 }
 
 // A name and the cursor past it, or the refusal with an empty name and the cursor as it was.
-#[derive(Drop)]
+#[derive(Clone, Copy, Drop)]
 pub struct NameRead {
     pub answer: Answer,
     pub name: Name,

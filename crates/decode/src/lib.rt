@@ -1,5 +1,6 @@
 // codec.rs's `decode`: bytes of whatever content and length are read as a workout, or refused by the first of the questions 1 to 9
 // that they fail.
+#![tactic(auto)]
 ghost use Rattle.std.specs.Prelude.{◌≡◌, ◌≤◌, drop, get_or};
 ghost use Rattle.cursor.specs.Reading.{refused, read_many};
 ghost use Rattle.steps.specs.Steps.{read_step};
@@ -11,14 +12,14 @@ use model::{Block, NO_BLOCK, NO_STEP, Step, Test, Workout};
 use names::Name;
 use refusal::{Answer, Refusal};
 
-#[derive(Drop)]
+#[derive(Clone, Copy, Drop)]
 pub enum TestOption {
     None,
     Some(Test),
 }
 
 // What stands before the steps: test, name and both counts.
-#[derive(Drop)]
+#[derive(Clone, Copy, Drop)]
 struct HeadRead {
     answer: Answer,
     test: Test,
@@ -28,20 +29,20 @@ struct HeadRead {
     next: Cursor,
 }
 
-#[derive(Drop)]
+#[derive(Clone, Copy, Drop)]
 struct StepsRead {
     answer: Answer,
     steps: [Step; 12],
     next: Cursor,
 }
 
-#[derive(Drop)]
+#[derive(Clone, Copy, Drop)]
 enum BlockOption {
     None,
     Some(Block, Cursor),
 }
 
-#[derive(Drop)]
+#[derive(Clone, Copy, Drop)]
 struct BlocksRead {
     answer: Answer,
     blocks: [Block; 8],
@@ -49,7 +50,7 @@ struct BlocksRead {
 }
 
 // The workout read, or the refusal with the empty workout.
-#[derive(Drop)]
+#[derive(Clone, Copy, Drop)]
 pub struct Decoded {
     pub answer: Answer,
     pub workout: Workout,

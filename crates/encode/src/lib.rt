@@ -1,4 +1,5 @@
 // codec.rs's `encode` into lent bytes: it writes exactly the file, or refuses and writes nothing.
+#![tactic(auto)]
 ghost use Rattle.std.specs.Prelude.{◌≡◌, true, ◌+◌, ◌≤◌, length, take};
 ghost use mathlib.Core.List.{flat_map};
 ghost use Rattle.common.specs.Lists.{all};
@@ -12,7 +13,7 @@ use model::{Block, Step, Test, Workout};
 use refusal::{Answer, Refusal};
 
 // The length of the file that was written, or the refusal.
-#[derive(Drop)]
+#[derive(Clone, Copy, Drop)]
 pub enum Encoded {
     Written(usize),
     Refused(Refusal),

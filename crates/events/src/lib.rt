@@ -1,4 +1,6 @@
 // player.rs's `Events`, in two lent arrays: the events' kinds, and their values.
+#![tactic(auto)]
+
 ghost use Rattle.std.specs.Prelude.{◌≡◌, cond, [], ◌∷◌, ◌<◌, length};
 ghost use Rattle.events.specs.Events.{event, events_if, Wrote};
 

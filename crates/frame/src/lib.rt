@@ -1,4 +1,5 @@
 // Request l: the players of four bikes, and how many watts of the supply that their brakes share one of them may draw.
+#![tactic(auto)]
 ghost use Rattle.std.specs.Prelude.{◌≡◌, [], ◌∷◌};
 ghost use Rattle.refusal.specs.declared.Answer.TheVariants.{Refused};
 ghost use Rattle.screen.specs.Screen.{ReportFits};
@@ -13,14 +14,14 @@ use supply::share;
 use zones::TrainingProfile;
 
 // A player, and the profile of its rider.
-#[derive(Drop)]
+#[derive(Clone, Copy, Drop)]
 pub struct Bike {
     pub player: Player,
     pub profile: TrainingProfile,
 }
 
 // What a bike's brake may draw: 0 where the call is refused.
-#[derive(Drop)]
+#[derive(Clone, Copy, Drop)]
 pub struct Granted {
     pub answer: Answer,
     pub watts: u16,

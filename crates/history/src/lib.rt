@@ -19,6 +19,7 @@
 //
 // Later versions only append fields before the check word and raise the version; the reader takes the fields it knows from any
 // version at least 1. What a record is written as is a definition here (specs/Record.antt).
+#![tactic(auto)]
 ghost use Rattle.std.specs.Prelude.{◌≡◌, ◌≤◌, ◌<◌, length, get_or};
 ghost use Rattle.power.specs.Power.{or_zero};
 ghost use Rattle.history.specs.Record.{start_at, start_ms, RecordSize};
@@ -54,13 +55,13 @@ const DATED: u16 = 2;
 const MEASURED: u16 = 4;
 
 // When a ride started, UTC ms, if that is known.
-#[derive(Drop)]
+#[derive(Clone, Copy, Drop)]
 pub enum StartOption {
     None,
     Some(u64),
 }
 
-#[derive(Drop)]
+#[derive(Clone, Copy, Drop)]
 pub struct Record {
     // `i` for the internal journal, `b` for the bulk log.
     pub journal: u8,
@@ -72,7 +73,7 @@ pub struct Record {
 }
 
 // The record read, or the refusal with a record of zeros.
-#[derive(Drop)]
+#[derive(Clone, Copy, Drop)]
 pub struct RecordRead {
     pub answer: Answer,
     pub record: Record,

@@ -1,5 +1,7 @@
 // Little-endian numbers in slices of bytes: get and put of 2, 4 and 8 bytes, as firmware_services::le has them.
 // A wider one is two of half its width.
+#![tactic(auto)]
+
 ghost use Rattle.std.specs.Prelude.{◌≡◌, [], ◌∷◌, ◌+◌, ◌*◌, ◌≤◌, length};
 ghost use Rattle.le.specs.Le.{number_of, bytes_of, part, written, Inverse};
 

@@ -1,5 +1,6 @@
 // model.rs: steps with a length and a target, the blocks that repeat some of them, and what a target asks of a rider.
 // The rest of model.rs stands in `names` (`Name`), `blocks` (sound blocks), `order` (the playing order) and `validation` (`validate`).
+#![tactic(auto)]
 ghost use Rattle.std.specs.Prelude.{◌≡◌, max};
 ghost use Rattle.model.specs.Target.{band_of, ramp_option, ramp_band, of_ftp, capped, wrapped, stage_of, stage_watts, watts_at};
 ghost use Rattle.model.specs.Workout.{empty_workout};
@@ -17,7 +18,7 @@ pub const MAX_PLAYED: usize = 96;
 pub const MIN_DISTANCE_M: u32 = 100;
 
 // What a step is for.
-#[derive(Drop)]
+#[derive(Clone, Copy, Drop)]
 pub enum Intensity {
     Warmup,
     Work,
@@ -28,7 +29,7 @@ pub enum Intensity {
 }
 
 // How long a step lasts.
-#[derive(Drop)]
+#[derive(Clone, Copy, Drop)]
 pub enum Length {
     // Recorded (active) seconds; a pause adds none.
     Time(u16),
@@ -39,7 +40,7 @@ pub enum Length {
 }
 
 // What the rider aims for during a step.
-#[derive(Drop)]
+#[derive(Clone, Copy, Drop)]
 pub enum Target {
     // Ride as you feel; nothing is checked.
     Free,
@@ -60,7 +61,7 @@ pub enum Target {
 }
 
 // A ramp in watts: `start` for its first `every` seconds, then `step` more each `every` seconds.
-#[derive(Drop)]
+#[derive(Clone, Copy, Drop)]
 pub struct Ramp {
     pub start: u16,
     pub step: u16,
@@ -68,14 +69,14 @@ pub struct Ramp {
 }
 
 // A target's ramp, if it has one.
-#[derive(Drop)]
+#[derive(Clone, Copy, Drop)]
 pub enum RampOption {
     None,
     Some(Ramp),
 }
 
 // What a target measures, once resolved against the profile.
-#[derive(Drop)]
+#[derive(Clone, Copy, Drop)]
 pub enum Metric {
     Power,
     Heart,
@@ -83,7 +84,7 @@ pub enum Metric {
 }
 
 // A target as numbers: the band the rider aims for, inclusive.
-#[derive(Drop)]
+#[derive(Clone, Copy, Drop)]
 pub struct Band {
     pub metric: Metric,
     pub low: u16,
@@ -91,13 +92,13 @@ pub struct Band {
 }
 
 // A target's band, if it has one.
-#[derive(Drop)]
+#[derive(Clone, Copy, Drop)]
 pub enum BandOption {
     None,
     Some(Band),
 }
 
-#[derive(Drop)]
+#[derive(Clone, Copy, Drop)]
 pub struct Step {
     pub intensity: Intensity,
     pub length: Length,
@@ -107,7 +108,7 @@ pub struct Step {
 }
 
 // `count` runs of the `len` steps from `first`.
-#[derive(Drop)]
+#[derive(Clone, Copy, Drop)]
 pub struct Block {
     pub first: u8,
     pub len: u8,
@@ -115,7 +116,7 @@ pub struct Block {
 }
 
 // FTP tests the player measures.
-#[derive(Drop)]
+#[derive(Clone, Copy, Drop)]
 pub enum Test {
     None,
     // FTP is 95 % of the average power of the whole `Intensity::Test` step.
@@ -124,7 +125,7 @@ pub enum Test {
     Ramp,
 }
 
-#[derive(Drop)]
+#[derive(Clone, Copy, Drop)]
 pub struct Workout {
     pub name: Name,
     pub steps: [Step; 12],

@@ -1,4 +1,6 @@
 // model.rs's `Name`: upper-case ASCII text of up to 20 bytes, and the test of question 5 for a name in memory.
+#![tactic(auto)]
+
 ghost use Rattle.std.specs.Prelude.{◌≡◌};
 ghost use Rattle.names.specs.Names.{allowed, drawn, name_ok, name_from, placed, empty_name, is_blank};
 
@@ -7,7 +9,7 @@ use common::least;
 // Bytes in a workout or step name.
 pub const NAME_BYTES: usize = 20;
 
-#[derive(Drop)]
+#[derive(Clone, Copy, Drop)]
 pub struct Name {
     pub bytes: [u8; 20],
     pub len: u8,

@@ -1,4 +1,5 @@
 // model.rs's playing order: `played` as a function from position to place, and what is planned of it.
+#![tactic(auto)]
 ghost use Rattle.std.specs.Prelude.{◌≡◌, ◌≤◌, ◌<◌, take};
 ghost use Rattle.order.specs.Order.{holds, block_at, piece_len, place_in, order, nth, step_at, played_of, seconds, played_seconds, planned_from, timed, timed_at, all_timed, has_untimed, played_len, PlayingOrder};
 
@@ -7,28 +8,28 @@ use common::least;
 use model::{Block, Length, MAX_PLAYED, NO_STEP, Step, Workout};
 
 // The block that holds a step, if one does.
-#[derive(Drop)]
+#[derive(Clone, Copy, Drop)]
 pub enum BlockOption {
     None,
     Some(Block),
 }
 
 // A place in the playing order: which step, in which run of its block, of how many.
-#[derive(Drop)]
+#[derive(Clone, Copy, Drop)]
 pub struct Place {
     pub index: usize,
     pub repetition: u8,
     pub of: u8,
 }
 
-#[derive(Drop)]
+#[derive(Clone, Copy, Drop)]
 pub enum PlaceOption {
     None,
     Some(Place),
 }
 
 // One step as it is played: which step, and which run of its block.
-#[derive(Drop)]
+#[derive(Clone, Copy, Drop)]
 pub struct Played {
     pub index: u8,
     // Zero-based run of the block the step is in.
@@ -39,7 +40,7 @@ pub struct Played {
 }
 
 // A played step, or NO_PLAYED where there is none.
-#[derive(Drop)]
+#[derive(Clone, Copy, Drop)]
 pub struct PlayedOption {
     pub found: bool,
     pub played: Played,

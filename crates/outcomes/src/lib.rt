@@ -1,5 +1,6 @@
 // player.rs: what the calls give (`Update`, `Extended`), the player that they give it with, and `extend` once only question 15 is left to
 // be asked.
+#![tactic(auto)]
 ghost use Rattle.std.specs.Prelude.{◌≡◌, ◌+◌, ◌≤◌, get_or};
 ghost use Rattle.model.specs.Workout.{no_step};
 ghost use Rattle.rounds.specs.Rounds.{riding};
@@ -11,7 +12,7 @@ use refusal::{Answer, Refusal};
 use state::{Core, Mm, Ms, Player};
 
 // What a call gives: its answer, the player after it, the number of its events in the lent arrays, and the rounds that rode.
-#[derive(Drop)]
+#[derive(Clone, Copy, Drop)]
 pub struct Update {
     pub answer: Answer,
     pub player: Player,
@@ -20,7 +21,7 @@ pub struct Update {
 }
 
 // What `extend` gives; `extended` is player.rs's own yes or no.
-#[derive(Drop)]
+#[derive(Clone, Copy, Drop)]
 pub struct Extended {
     pub answer: Answer,
     pub player: Player,
@@ -28,7 +29,7 @@ pub struct Extended {
 }
 
 // The same of a core.
-#[derive(Drop)]
+#[derive(Clone, Copy, Drop)]
 pub struct ExtendedCore {
     pub answer: Answer,
     pub core: Core,

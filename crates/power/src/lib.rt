@@ -1,16 +1,18 @@
 // player.rs's `Power3s`: the last three power readings and their average. It is lent by its owner and takes one reading a call.
+#![tactic(auto)]
+
 ghost use Rattle.std.specs.Prelude.{◌≡◌, cond, ◌*◌, ◌≤◌};
 ghost use Rattle.power.specs.Power.{or_zero, is_some, reading_at, one_present, mean_by, average_of, added};
 
 // A reading, or a number made of readings, if there is one.
-#[derive(Drop)]
+#[derive(Clone, Copy, Drop)]
 pub enum ReadingOption {
     None,
     Some(u16),
 }
 
 // The last three power readings; `next` is the place of the oldest. An absent reading is `false` with 0 watts.
-#[derive(Drop)]
+#[derive(Clone, Copy, Drop)]
 pub struct Power3s {
     pub watts: [u16; 3],
     pub present: [bool; 3],

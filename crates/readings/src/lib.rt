@@ -1,4 +1,5 @@
 // ride/log.rs's `Sample`, of which the workout module uses three readings, and player.rs's `read`, `reading` and `compliance`.
+#![tactic(auto)]
 ghost use Rattle.std.specs.Prelude.{◌≡◌, ◌≤◌};
 ghost use Rattle.zones.specs.Zones.{clamped};
 ghost use Rattle.readings.specs.Readings.{flag_set, per_minute, reading_of, against, compared, judged, compliance_of, taken, no_readings};
@@ -8,7 +9,7 @@ use power::{Power3s, ReadingOption, with_reading};
 use zones::TrainingProfile;
 
 // The three readings of log.rs's `Sample` that the player uses.
-#[derive(Drop)]
+#[derive(Clone, Copy, Drop)]
 pub struct Sample {
     pub power_watts: ReadingOption,
     pub heart_bpm: ReadingOption,
@@ -17,14 +18,14 @@ pub struct Sample {
 }
 
 // What the rider's sensors say: the last sample, and the average that power is checked as.
-#[derive(Drop)]
+#[derive(Clone, Copy, Drop)]
 pub struct Readings {
     pub last_sample: Sample,
     pub power: Power3s,
 }
 
 // Where the reading sits against the step's band.
-#[derive(Drop)]
+#[derive(Clone, Copy, Drop)]
 pub enum Compliance {
     Under,
     In,
@@ -32,7 +33,7 @@ pub enum Compliance {
 }
 
 // A compliance, or why there is none: the target has no band, or the band's reading is absent.
-#[derive(Drop)]
+#[derive(Clone, Copy, Drop)]
 pub enum ComplianceOption {
     NoBand,
     NoReading,
@@ -110,7 +111,7 @@ impl Readings {
 }
 
 // A number against a range, both ends of which are in it.
-#[derive(Drop)]
+#[derive(Clone, Copy, Drop)]
 struct Compared {
     low: u16,
     high: u16,

@@ -1,10 +1,12 @@
 // The questions of document 01, 'The questions, in order', and of document 02's requests as refusals: one case for each question
 // that can fail, with its number. `Invalid` is model.rs's; the others that codec.rs names keep their names.
+#![tactic(auto)]
+
 ghost use Rattle.std.specs.Prelude.{◌≡◌};
 ghost use Rattle.refusal.specs.Number.{question_number, answer_number, NumbersApart};
 
 // Why a workout cannot be played.
-#[derive(Drop)]
+#[derive(Clone, Copy, Drop)]
 pub enum Invalid {
     NoSteps,
     // A block reaches past the steps, overlaps another or repeats nothing.
@@ -16,7 +18,7 @@ pub enum Invalid {
 }
 
 // Which question the input or the call failed.
-#[derive(Drop)]
+#[derive(Clone, Copy, Drop)]
 pub enum Refusal {
     Length,
     Magic,
@@ -75,7 +77,7 @@ impl Refusal {
 }
 
 // What asking gives: accepted, or the first question that failed.
-#[derive(Drop)]
+#[derive(Clone, Copy, Drop)]
 pub enum Answer {
     Accepted,
     Refused(Refusal),

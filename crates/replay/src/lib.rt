@@ -1,5 +1,6 @@
 // Document 01: the replay of a ride sheet, with event arrays of its own. It asks the workout file, the sheet and the room for the
 // record, then plays act by act (document 01's word for an entry of a sheet) from a fresh player, and writes the record.
+#![tactic(auto)]
 ghost use Rattle.std.specs.Prelude.{◌≡◌, true, false, ◌+◌, ◌*◌, ◌-◌, ◌≤◌, ◌<◌, length};
 ghost use Rattle.zones.specs.Zones.{profile_ok};
 ghost use Rattle.rounds.specs.Rounds.{riding};
@@ -33,7 +34,7 @@ const LONG_S: u32 = 60;
 const LONG_M: u32 = 500;
 
 // What a sheet came to: the answer, and what the record takes from workout and player; refused, nothing.
-#[derive(Drop)]
+#[derive(Clone, Copy, Drop)]
 pub struct Ridden {
     pub outcome: ActAnswer,
     pub name: Name,
@@ -42,7 +43,7 @@ pub struct Ridden {
 }
 
 // What an act gives: its answer, the core after it, and the number of its events.
-#[derive(Drop)]
+#[derive(Clone, Copy, Drop)]
 struct Acted {
     answer: Answer,
     core: Core,

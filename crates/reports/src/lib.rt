@@ -1,4 +1,5 @@
 // player.rs: the calls that report, and `until_end`. Each asks question 20 first, of any player value.
+#![tactic(auto)]
 ghost use Rattle.std.specs.Prelude.{◌≡◌};
 ghost use Rattle.refusal.specs.declared.Answer.TheVariants.{Refused};
 ghost use Rattle.state.specs.State.{part};
@@ -16,37 +17,37 @@ use start::no_summary;
 use state::{Mm, Ms, Part, Player, Summary};
 use zones::TrainingProfile;
 
-#[derive(Drop)]
+#[derive(Clone, Copy, Drop)]
 pub struct SummaryRead {
     pub answer: Answer,
     pub summary: Summary,
 }
 
-#[derive(Drop)]
+#[derive(Clone, Copy, Drop)]
 pub struct RemainingRead {
     pub answer: Answer,
     pub secs: SecsOption,
 }
 
-#[derive(Drop)]
+#[derive(Clone, Copy, Drop)]
 pub struct DistanceRead {
     pub answer: Answer,
     pub distance: bool,
 }
 
-#[derive(Drop)]
+#[derive(Clone, Copy, Drop)]
 pub struct PartRead {
     pub answer: Answer,
     pub part: Part,
 }
 
-#[derive(Drop)]
+#[derive(Clone, Copy, Drop)]
 pub struct PlacesRead {
     pub answer: Answer,
     pub places: usize,
 }
 
-#[derive(Drop)]
+#[derive(Clone, Copy, Drop)]
 pub struct NowRead {
     pub answer: Answer,
     pub now: Now,

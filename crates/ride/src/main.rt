@@ -1,5 +1,6 @@
 // Document 01, 'Bench sheet': "The program reads workout.bin and ride.bin, a missing one as empty", and prints a line of how the
 // ride went, or of the question that refused it.
+#![tactic(auto)]
 ghost use Rattle.io.specs.Counts.{IsPrefixLen};
 
 use libc::STDOUT_FILENO;

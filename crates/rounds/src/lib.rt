@@ -1,4 +1,5 @@
 // player.rs's `account` and the loop of `add`: an update's parts, each of which ends a step or uses the update up.
+#![tactic(auto)]
 ghost use Rattle.std.specs.Prelude.{◌≡◌, false, ◌+◌, ◌≤◌, ◌<◌, length};
 ghost use Rattle.state.specs.State.{SmallEnergy};
 ghost use Rattle.step_end.specs.StepEnd.{NextFits, next_of};
@@ -12,7 +13,7 @@ use step_end::{countdown, is_over, next};
 use zones::TrainingProfile;
 
 // An update on its way: the core, what is left of the time and the way, the events so far and the rounds that rode.
-#[derive(Drop)]
+#[derive(Clone, Copy, Drop)]
 pub struct Ride {
     pub core: Core,
     pub ms: Ms,

@@ -1,4 +1,5 @@
 // player.rs: what a screen shows of a player: what remains of the workout, and `Now`. A standing player is supposed; the calls ask.
+#![tactic(auto)]
 ghost use Rattle.std.specs.Prelude.{◌≡◌, ◌+◌, ◌-◌, ◌/◌, ◌≤◌, min, max};
 ghost use Rattle.model.specs.declared.Length.TheVariants.{Time, Distance};
 ghost use Rattle.state.specs.State.{duration_ms, SmallEnergy};
@@ -14,13 +15,13 @@ use readings::{ComplianceOption, Readings};
 use state::{Core, Lap, Measured, Player, last_of, less};
 use zones::TrainingProfile;
 
-#[derive(Drop)]
+#[derive(Clone, Copy, Drop)]
 pub enum SecsOption {
     None,
     Some(u32),
 }
 
-#[derive(Drop)]
+#[derive(Clone, Copy, Drop)]
 pub enum Left {
     Secs(u32),
     Metres(u32),
@@ -29,14 +30,14 @@ pub enum Left {
 }
 
 // How much is left of a step, and how far through it the rider is, in thousandths; zero for open steps.
-#[derive(Drop)]
+#[derive(Clone, Copy, Drop)]
 pub struct Shown {
     pub left: Left,
     pub progress: u16,
 }
 
 // A test's running number on screen.
-#[derive(Drop)]
+#[derive(Clone, Copy, Drop)]
 pub enum TestReadout {
     None,
     // Average watts of the twenty minutes so far.
@@ -46,7 +47,7 @@ pub enum TestReadout {
 }
 
 // What a screen needs about the step on now.
-#[derive(Drop)]
+#[derive(Clone, Copy, Drop)]
 pub struct Now {
     pub position: u8,
     pub steps: u8,

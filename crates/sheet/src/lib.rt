@@ -1,5 +1,6 @@
 // Document 01, 'Ride sheet': its reader, with questions 16 and 17. A sheet has a 2-byte count n, n kind bytes and n values of 8
 // bytes; it stores a list of calls, each of which document 01 calls an act.
+#![tactic(auto)]
 ghost use Rattle.std.specs.Prelude.{◌≡◌, ◌+◌, ◌*◌, ◌≤◌, ◌<◌, length};
 ghost use Rattle.sheet.specs.RoundTrip.{WrittenIsRead, ReadIsWritten, SampleSheet};
 ghost use Rattle.sheet.specs.Sheet.{count_in, size_ok, absent_ok, profile_at, sample_at, sample_ok, unused_at, act_ok, act_in, fault_from, accepted_all, refused_at, check_of};
@@ -19,7 +20,7 @@ const HEART: u16 = 2;
 
 const CADENCE: u16 = 4;
 
-#[derive(Drop)]
+#[derive(Clone, Copy, Drop)]
 pub enum Act {
     Profile(TrainingProfile),
     Read(Sample),
@@ -32,14 +33,14 @@ pub enum Act {
 }
 
 // The number of an act, from 0, if one is named.
-#[derive(Drop)]
+#[derive(Clone, Copy, Drop)]
 pub enum ActOption {
     None,
     Some(u16),
 }
 
 // An answer, and the act that a refusal names.
-#[derive(Drop)]
+#[derive(Clone, Copy, Drop)]
 pub struct ActAnswer {
     pub answer: Answer,
     pub act: ActOption,

@@ -1,4 +1,5 @@
 // player.rs's `new`: a fresh player of a workout that passes questions 5 to 9.
+#![tactic(auto)]
 ghost use Rattle.std.specs.Prelude.{◌≡◌, ◌≤◌};
 ghost use Rattle.order.specs.Order.{played_len};
 ghost use Rattle.start.specs.Start.{no_summary, fresh_core, fresh, new_of};
@@ -11,7 +12,7 @@ use refusal::Answer;
 use state::{Core, Lap, Mm, Ms, Player, Summary, fresh_measured, step_now};
 use validation::check;
 
-#[derive(Drop)]
+#[derive(Clone, Copy, Drop)]
 pub struct NewPlayer {
     pub answer: Answer,
     pub player: Player,

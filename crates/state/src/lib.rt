@@ -1,6 +1,7 @@
 // player.rs's state: the summary, the amounts of the step on now, the test's sums, and `until_end`, `read` and `extend` on them; and how
 // many places for events an update wants.
 // The workout and the minute's watts stand apart in `Player`, so that what a round of riding changes is small (`Core`).
+#![tactic(auto)]
 ghost use Rattle.std.specs.Prelude.{◌≡◌, ◌+◌, ◌-◌, ◌*◌, ◌≤◌, min};
 ghost use Rattle.state.specs.State.{in_target_pct, duration_ms, distance_m, distance_mm, time_share, way_share, share_of, until_end, tallied, TallyFits, event_places, read_core, fresh_measured, extended_lap, step_now};
 
@@ -11,28 +12,28 @@ use power::ReadingOption;
 use readings::{Compliance, ComplianceOption, Readings, Sample};
 
 // A time in milliseconds and a way in millimetres, which never stand in each other's place.
-#[derive(Drop)]
+#[derive(Clone, Copy, Drop)]
 pub struct Ms(pub u64);
 
-#[derive(Drop)]
+#[derive(Clone, Copy, Drop)]
 pub struct Mm(pub u64);
 
 // Part of an update: its time and its way.
-#[derive(Drop)]
+#[derive(Clone, Copy, Drop)]
 pub struct Part {
     pub ms: Ms,
     pub mm: Mm,
 }
 
 // A whole percentage, if there is one.
-#[derive(Drop)]
+#[derive(Clone, Copy, Drop)]
 pub enum PctOption {
     None,
     Some(u8),
 }
 
 // How the whole workout went so far, for the ride summary.
-#[derive(Drop)]
+#[derive(Clone, Copy, Drop)]
 pub struct Summary {
     // Recorded time with a target whose reading was absent. It stands first for the time that a replay takes (docs/TIMES.md).
     pub unread_ms: u64,
@@ -51,7 +52,7 @@ pub struct Summary {
 }
 
 // The amounts of the step on now, which start afresh with each step: what was ridden of it, and what touches added to it.
-#[derive(Drop)]
+#[derive(Clone, Copy, Drop)]
 pub struct Lap {
     pub step_ms: u64,
     pub step_mm: u64,
@@ -60,7 +61,7 @@ pub struct Lap {
 }
 
 // The ramp's last minute of watts, but for the watts: the best full minute, the next place and how many places are filled.
-#[derive(Drop)]
+#[derive(Clone, Copy, Drop)]
 pub struct Ring {
     pub best_minute: ReadingOption,
     pub minute_at: u8,
@@ -68,7 +69,7 @@ pub struct Ring {
 }
 
 // What the tests measure, of the step on now alone but for the time under a ramp.
-#[derive(Drop)]
+#[derive(Clone, Copy, Drop)]
 pub struct Measured {
     // The twenty minutes' energy and time.
     pub test_mj: u64,
@@ -81,7 +82,7 @@ pub struct Measured {
 }
 
 // player.rs's `played`, the step on now, but for its note.
-#[derive(Drop)]
+#[derive(Clone, Copy, Drop)]
 pub struct StepNow {
     pub length: Length,
     pub target: Target,
@@ -92,7 +93,7 @@ pub struct StepNow {
 }
 
 // What riding changes. The order of the fields leaves no gap between them.
-#[derive(Drop)]
+#[derive(Clone, Copy, Drop)]
 pub struct Core {
     pub position: usize,
     pub steps: usize,
@@ -106,7 +107,7 @@ pub struct Core {
     pub done: bool,
 }
 
-#[derive(Drop)]
+#[derive(Clone, Copy, Drop)]
 pub struct Player {
     pub core: Core,
     pub workout: Workout,

@@ -1,4 +1,5 @@
 // player.rs's `next`: a step's last seconds, its end, and the step after it, with their events.
+#![tactic(auto)]
 ghost use Rattle.std.specs.Prelude.{◌≡◌, cond, [], ◌∷◌, ◌++◌, ◌+◌, ◌≤◌, length};
 ghost use Rattle.events.specs.Events.{Wrote};
 ghost use Rattle.step_end.specs.StepEnd.{due_at, countdowns_to, countdowns_of, is_over, or_else, step_after, measured_after, arrived, next_of, NextFits, Moves};
@@ -170,7 +171,7 @@ fn arrive(core: Core, found: PlayedOption, ftp: ReadingOption, skipped: bool) ->
 }
 
 // The core after a call, and its events' count.
-#[derive(Drop)]
+#[derive(Clone, Copy, Drop)]
 pub struct Moved {
     pub core: Core,
     pub count: usize,

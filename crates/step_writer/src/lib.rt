@@ -1,4 +1,5 @@
 // codec.rs: one step of a workout file, written into lent bytes. The room is there: whoever calls has asked.
+#![tactic(auto)]
 ghost use Rattle.std.specs.Prelude.{◌≡◌, ◌+◌, ◌≤◌, length, take};
 ghost use Rattle.le.specs.Le.{written};
 ghost use Rattle.cursor.specs.Names.{name_bytes};
@@ -40,7 +41,7 @@ pub fn length_value(lasts: Length) -> u32
 }
 
 // A target's kind and its three values.
-#[derive(Drop)]
+#[derive(Clone, Copy, Drop)]
 pub struct Values {
     pub kind: u8,
     pub a: u16,

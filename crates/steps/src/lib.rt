@@ -1,4 +1,5 @@
 // codec.rs: one step of a workout file, read. A step is 15 bytes up to its note's length, and the note.
+#![tactic(auto)]
 ghost use Rattle.std.specs.Prelude.{◌≡◌, ◌&&◌, ◌+◌, ◌≤◌, ltb, eqb, length, drop};
 ghost use Rattle.cursor.specs.Reading.{refused};
 ghost use Rattle.steps.specs.Steps.{intensity_of, length_of, small_of, plain_of, target_of, fixed_of, step_by, step_at};
@@ -7,40 +8,40 @@ use cursor::{Cursor, Taken};
 use model::{Intensity, Length, NO_STEP, Step, Target};
 use refusal::{Answer, Refusal};
 
-#[derive(Drop)]
+#[derive(Clone, Copy, Drop)]
 pub enum IntensityOption {
     None,
     Some(Intensity),
 }
 
-#[derive(Drop)]
+#[derive(Clone, Copy, Drop)]
 pub enum LengthOption {
     None,
     Some(Length),
 }
 
-#[derive(Drop)]
+#[derive(Clone, Copy, Drop)]
 pub enum TargetOption {
     None,
     Some(Target),
 }
 
 // Two values that each fit a byte.
-#[derive(Drop)]
+#[derive(Clone, Copy, Drop)]
 pub enum SmallOption {
     None,
     Some(u8, u8),
 }
 
 // What a step's bytes before its note hold, where all of them are allowed.
-#[derive(Drop)]
+#[derive(Clone, Copy, Drop)]
 pub enum Fixed {
     None,
     Some(Intensity, Length, Target),
 }
 
 // A step and the cursor past it, or the refusal with NO_STEP and the cursor as it was.
-#[derive(Drop)]
+#[derive(Clone, Copy, Drop)]
 pub struct StepRead {
     pub answer: Answer,
     pub step: Step,

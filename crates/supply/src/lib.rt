@@ -1,5 +1,7 @@
 // Request l: four bikes share a supply of so many watts. Each gets what it wants or, where that is too much for the supply, what it
 // wants up to a level that is the same for all.
+#![tactic(auto)]
+
 ghost use Rattle.std.specs.Prelude.{◌≡◌, ◌≤◌, ◌<◌, min, get_or};
 ghost use Rattle.common.specs.Lists.{sum};
 ghost use Rattle.supply.specs.Supply.{at_level, level_of, grants_of, SupplyShared};

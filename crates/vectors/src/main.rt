@@ -1,5 +1,6 @@
 // Replays the fixed lists of answers, data/answers, data/players and data/replays, which tests/oracle/vectors makes, and
 // writes for each question how many answers were compared and how many differ.
+#![tactic(auto)]
 ghost use Rattle.std.specs.Prelude.{◌≡◌, length, ◌+◌, ◌*◌, ◌≤◌};
 ghost use Rattle.io.specs.Counts.{IsPrefixLen};
 ghost use Rattle.vectors.specs.Replays.{entry_at, Within, agrees, more, compared, step_of, replay_of};
@@ -7,7 +8,7 @@ ghost use Rattle.vectors.specs.Replays.{entry_at, Within, agrees, more, compared
 use libc::STDOUT_FILENO;
 
 // What stands at a place of the list: a question, where its input ends, and how many words the answer after it has.
-#[derive(Drop)]
+#[derive(Clone, Copy, Drop)]
 enum Entry {
     Asked {
         question: u32,
@@ -19,7 +20,7 @@ enum Entry {
 }
 
 // How far the list is read, and what was found of one question.
-#[derive(Drop)]
+#[derive(Clone, Copy, Drop)]
 struct Replay {
     at: usize,
     compared: u32,

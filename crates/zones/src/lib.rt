@@ -1,6 +1,8 @@
 // ride/zones.rs: the rider's training profile and the zones it defines, with question 10 of document 01.
 // Power uses seven zones in percent of FTP, heart rate five in percent of lactate threshold heart rate (LTHR).
 // `ZoneTime`, which nothing of the workout module uses, is left out.
+#![tactic(auto)]
+
 ghost use Rattle.std.specs.Prelude.{◌≡◌, cond, ◌≤◌, ◌-◌, max, ltb, leb};
 ghost use Rattle.zones.specs.Zones.{percent_of, power_zone, heart_zone, power_range, heart_range, clamped, profile_answer, new_number, profile_new};
 ghost use Rattle.refusal.specs.Number.{answer_number};
@@ -13,21 +15,21 @@ const POWER_UPPER_PCT: [u8; 7] = [55, 75, 90, 105, 120, 150, 200];
 const HEART_BOUND_PCT: [u8; 6] = [65, 81, 90, 94, 100, 110];
 
 // Thresholds the zones derive from.
-#[derive(Drop)]
+#[derive(Clone, Copy, Drop)]
 pub struct TrainingProfile {
     pub ftp_watts: u16,
     pub lthr_bpm: u16,
 }
 
 // Where a zone begins and where the next one begins.
-#[derive(Drop)]
+#[derive(Clone, Copy, Drop)]
 pub struct Range {
     pub low: u32,
     pub next: u32,
 }
 
 // A profile, or the refusal of its thresholds.
-#[derive(Drop)]
+#[derive(Clone, Copy, Drop)]
 pub enum NewProfile {
     Profile(TrainingProfile),
     Refused(Refusal),

@@ -1,0 +1,7 @@
+-- `Power3s::add`: the reading takes the place of the oldest.
+use Rattle.power.specs.Power.{added}
+use Rattle.power.proofs.Power3s.add.Goals as goal
+
+pub returns : goal.returns
+unfolding added
+returns c = simp (c.or_zero-value.ensures, c.is_some-present.ensures)
