@@ -1,6 +1,7 @@
 // codec.rs's reader as a by-value cursor over a slice: it hands out the next bytes or says that they end. `Reader` itself, which
 // holds the slice, is a thin form over it.
 #![tactic(auto)]
+
 ghost use Rattle.std.specs.Prelude.{◌≡◌, ◌∷◌, ◌+◌, ◌-◌, ◌≤◌, length, take, drop};
 ghost use Rattle.common.specs.Lists.{all, padded};
 ghost use Rattle.names.specs.Names.{allowed};

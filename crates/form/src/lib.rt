@@ -1,5 +1,6 @@
 // Question 5 of document 01 for a workout in memory: names, counts and unused places.
 #![tactic(auto)]
+
 ghost use Rattle.std.specs.Prelude.{◌≡◌};
 ghost use Rattle.form.specs.Form.{is_work, is_open, is_free, is_no_step, is_no_block, step_slot, block_slot, step_slots, block_slots, form_ok, UnusedPlaces};
 

@@ -1,6 +1,7 @@
 // model.rs: steps with a length and a target, the blocks that repeat some of them, and what a target asks of a rider.
 // The rest of model.rs stands in `names` (`Name`), `blocks` (sound blocks), `order` (the playing order) and `validation` (`validate`).
 #![tactic(auto)]
+
 ghost use Rattle.std.specs.Prelude.{◌≡◌, max};
 ghost use Rattle.model.specs.Target.{band_of, ramp_option, ramp_band, of_ftp, capped, wrapped, stage_of, stage_watts, watts_at};
 ghost use Rattle.model.specs.Workout.{empty_workout};

@@ -1,5 +1,6 @@
 // model.rs's playing order: `played` as a function from position to place, and what is planned of it.
 #![tactic(auto)]
+
 ghost use Rattle.std.specs.Prelude.{◌≡◌, ◌≤◌, ◌<◌, take};
 ghost use Rattle.order.specs.Order.{holds, block_at, piece_len, place_in, order, nth, step_at, played_of, seconds, played_seconds, planned_from, timed, timed_at, all_timed, has_untimed, played_len, PlayingOrder};
 

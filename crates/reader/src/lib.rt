@@ -1,6 +1,7 @@
 // codec.rs's `Reader`: the bytes and the place in them in one struct, with thin calls over the cursor's. The borrow checker covers
 // no function over a struct that holds a reference, so these are proved by hand. What they call is covered, and so is who calls them.
 #![tactic(auto)]
+
 ghost use Rattle.std.specs.Prelude.{◌≡◌};
 ghost use Rattle.cursor.specs.Names.{taken_at, byte_at, name_at};
 ghost use Rattle.reader.specs.Place.{past_bytes, past_byte, moved_to};

@@ -1,5 +1,6 @@
 // ride/log.rs's `Sample`, of which the workout module uses three readings, and player.rs's `read`, `reading` and `compliance`.
 #![tactic(auto)]
+
 ghost use Rattle.std.specs.Prelude.{◌≡◌, ◌≤◌};
 ghost use Rattle.zones.specs.Zones.{clamped};
 ghost use Rattle.readings.specs.Readings.{flag_set, per_minute, reading_of, against, compared, judged, compliance_of, taken, no_readings};

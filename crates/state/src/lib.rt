@@ -2,6 +2,7 @@
 // many places for events an update wants.
 // The workout and the minute's watts stand apart in `Player`, so that what a round of riding changes is small (`Core`).
 #![tactic(auto)]
+
 ghost use Rattle.std.specs.Prelude.{◌≡◌, ◌+◌, ◌-◌, ◌*◌, ◌≤◌, min};
 ghost use Rattle.state.specs.State.{in_target_pct, duration_ms, distance_m, distance_mm, time_share, way_share, share_of, until_end, tallied, TallyFits, event_places, read_core, fresh_measured, extended_lap, step_now};
 

@@ -1,5 +1,6 @@
 // codec.rs: one step of a workout file, read. A step is 15 bytes up to its note's length, and the note.
 #![tactic(auto)]
+
 ghost use Rattle.std.specs.Prelude.{◌≡◌, ◌&&◌, ◌+◌, ◌≤◌, ltb, eqb, length, drop};
 ghost use Rattle.cursor.specs.Reading.{refused};
 ghost use Rattle.steps.specs.Steps.{intensity_of, length_of, small_of, plain_of, target_of, fixed_of, step_by, step_at};

@@ -1,5 +1,6 @@
 // model.rs's `validate`: questions 6 to 9 of document 01, and with question 5 before them all that is asked of a workout in memory.
 #![tactic(auto)]
+
 ghost use Rattle.std.specs.Prelude.{◌≡◌, take};
 ghost use Rattle.validation.specs.Sound.{length_ok, within, target_ok, step_ok, sound_at, steps_sound, valid_answer, workout_answer};
 

@@ -1,0 +1,16 @@
+-- `all_allowed`: what has been found, and the bytes from i on, give the answer of all bytes.
+use mathlib.Core.Bool.{Bool, ◌&&◌}
+use mathlib.Core.Path.{◌≡◌, sym, ap, ◌∙◌, refl}
+use Prim.Native.Nat.{◌+◌, ◌-◌, ◌≤◌}
+use native.Mathlib.Omega.{arith}
+use lib.ListN.{length, take, drop, length-take, length-drop}
+use Rattle.names.specs.Names.{allowed}
+use Rattle.common.proofs.Lists.{all-step, all_end, get_d_part}
+use Rattle.common.specs.Lists.{all}
+use Rattle.cursor.proofs.all_allowed.Given as goal
+
+abbrev pub invariant-loop-i : goal.invariant-loop-i
+invariant-loop-i l = (l.i ≤ l.n) × ((l.ok && all allowed (drop l.i (take l.n (drop l.from l.bytes)))) ≡ all allowed (take l.n (drop l.from l.bytes)))
+
+abbrev pub decreases-loop-i : goal.decreases-loop-i
+decreases-loop-i l = l.n - l.i

@@ -1,0 +1,16 @@
+-- `step_slots`: what has been found, and the places from i on, give the answer of all places.
+use mathlib.Core.Bool.{◌&&◌}
+use mathlib.Core.Path.{◌≡◌, ◌∙◌, refl}
+use Prim.Native.Nat.{◌≤◌, ◌-◌}
+use native.Mathlib.Omega.{arith}
+use lib.ListN.{drop}
+use Rattle.common.proofs.Lists.{all-at-step, all-at-end, all_split}
+use Rattle.common.specs.Lists.{all_at}
+use Rattle.form.specs.Form.{step_slot, step_slots, note_ok, is_no_step}
+use Rattle.form.proofs.step_slots.Given as goal
+
+abbrev pub invariant-loop-i : goal.invariant-loop-i
+invariant-loop-i l = (l.i ≤ 12) × ((l.ok && all_at (step_slot l.count) l.i (drop l.i l.steps)) ≡ all_at (step_slot l.count) 0 l.steps)
+
+abbrev pub decreases-loop-i : goal.decreases-loop-i
+decreases-loop-i l = 12 - l.i
