@@ -28,7 +28,7 @@ returns-then-before-size c = let a = c.args in
     let l = c.loop-i in
     let bs = take a.count a.blocks in
     let size : c.piece_len-size.result ≡ piece_len (block_at bs l.i) l.i = c.piece_len-size.ensures ∙ ap (λ (f : BlockOption). piece_len f l.i) c.block_at-found.ensures in
-    ap (λ (p : Place). place_option.Some p) (c.IsPlace-in.ensures ∙ ap (λ (f : BlockOption). place_in f l.i l.before) c.block_at-found.ensures)
+    ap (λ (p : Place). place_option.Some p) (c.place_in.ensures ∙ ap (λ (f : BlockOption). place_in f l.i l.before) c.block_at-found.ensures)
     ∙ sym (look-here bs a.steps l.i l.before (omega arith) (omega arith)) ∙ l.invariant.1
 
 pub overflow_add-i : goal.overflow_add-i

@@ -3,10 +3,11 @@ use mathlib.Core.Path.{◌≡◌, ◌∙◌, sym}
 use native.Mathlib.Omega.{arith}
 use lib.ListN.{length, length-take, length-map}
 use Rattle.order.specs.Order.{played_len}
+use borrow.Author.Rules.{rules}
 use Rattle.order.proofs.played_len.Goals as goal
 
 pub returns : goal.returns
 unfolding played_len
 returns c = let w = c.args.workout in
-    let long : length w.steps ≡ 12 = sym (length-map w.steps _) ∙ c.well_formed.0.1.1.1.0.1.0.1 in
+    let long : length w.steps ≡ 12 = search rules in
     omega (arith, length-take w.step_count w.steps, c.repeats_of.ensures.0)
