@@ -1,6 +1,7 @@
 // codec.rs's `decode`: bytes of whatever content and length are read as a workout, or refused by the first of the questions 1 to 9
 // that they fail.
 #![tactic(auto)]
+
 ghost use Rattle.std.specs.Prelude.{◌≡◌, ◌≤◌, drop, get_or};
 ghost use Rattle.cursor.specs.Reading.{refused, read_many};
 ghost use Rattle.steps.specs.Steps.{read_step};

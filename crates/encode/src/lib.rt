@@ -1,5 +1,6 @@
 // codec.rs's `encode` into lent bytes: it writes exactly the file, or refuses and writes nothing.
 #![tactic(auto)]
+
 ghost use Rattle.std.specs.Prelude.{◌≡◌, true, ◌+◌, ◌≤◌, length, take};
 ghost use mathlib.Core.List.{flat_map};
 ghost use Rattle.common.specs.Lists.{all};

@@ -1,5 +1,6 @@
 // codec.rs: one step of a workout file, written into lent bytes. The room is there: whoever calls has asked.
 #![tactic(auto)]
+
 ghost use Rattle.std.specs.Prelude.{◌≡◌, ◌+◌, ◌≤◌, length, take};
 ghost use Rattle.le.specs.Le.{written};
 ghost use Rattle.cursor.specs.Names.{name_bytes};
