@@ -1,5 +1,6 @@
 // codec.rs, both ways: what `encode` writes is what `decode` reads. The crate has statements; its functions compute nothing.
 #![tactic(auto)]
+
 ghost use Rattle.codec.specs.Typed.{LengthFits, TargetFits, StepFits, WorkoutFits};
 ghost use Rattle.codec.specs.RoundTrip.{WrittenIsRead, ReadIsWritten};
 

@@ -1,6 +1,7 @@
 // player.rs's `measure`, `result` and `ramp_failed`: the twenty minutes' energy, the ramp's minutes, whether the rider holds the
 // ramp, and the FTP a test gives.
 #![tactic(auto)]
+
 ghost use Rattle.std.specs.Prelude.{◌≡◌, cond, ◌+◌, ◌<◌, ◌≤◌, min, max, eqb, length};
 ghost use Rattle.common.specs.Lists.{sum};
 ghost use Rattle.state.specs.State.{duration_ms, SmallEnergy};

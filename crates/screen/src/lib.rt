@@ -1,5 +1,6 @@
 // player.rs: what a screen shows of a player: what remains of the workout, and `Now`. A standing player is supposed; the calls ask.
 #![tactic(auto)]
+
 ghost use Rattle.std.specs.Prelude.{◌≡◌, ◌+◌, ◌-◌, ◌/◌, ◌≤◌, min, max};
 ghost use Rattle.model.specs.declared.Length.TheVariants.{Time, Distance};
 ghost use Rattle.state.specs.State.{duration_ms, SmallEnergy};

@@ -1,6 +1,7 @@
 // Document 01's question 20: whether a player is standing, that is, whether its fields agree with each other and lie within their
 // limits. 'Standing' is the paper's word. The test is of any value that a player's types hold.
 #![tactic(auto)]
+
 ghost use Rattle.std.specs.Prelude.{◌≡◌, cond, ◌≤◌, length};
 ghost use Rattle.standing.specs.Standing.{accepted, same, same_length, same_target, same_step, same_name, same_bytes, byte_same, on_place, counts_ok, fresh, below_end, lap_ok, totals_ok, tallies_ok, measured_ok, cadence_in, readings_ok, core_ok, step_is, standing_of};
 

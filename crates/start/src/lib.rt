@@ -1,5 +1,6 @@
 // player.rs's `new`: a fresh player of a workout that passes questions 5 to 9.
 #![tactic(auto)]
+
 ghost use Rattle.std.specs.Prelude.{◌≡◌, ◌≤◌};
 ghost use Rattle.order.specs.Order.{played_len};
 ghost use Rattle.start.specs.Start.{no_summary, fresh_core, fresh, new_of};

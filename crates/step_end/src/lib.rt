@@ -1,5 +1,6 @@
 // player.rs's `next`: a step's last seconds, its end, and the step after it, with their events.
 #![tactic(auto)]
+
 ghost use Rattle.std.specs.Prelude.{◌≡◌, cond, [], ◌∷◌, ◌++◌, ◌+◌, ◌≤◌, length};
 ghost use Rattle.events.specs.Events.{Wrote};
 ghost use Rattle.step_end.specs.StepEnd.{due_at, countdowns_to, countdowns_of, is_over, or_else, step_after, measured_after, arrived, next_of, NextFits, Moves};

@@ -29,7 +29,7 @@ put_text-requires c = let a = c.args in
     let p = c.requires in
     let long : length a.name.bytes ≡ 20 = search (rules, c.well_formed.1.1.0.1.1.0) in
     let size = name-size a.name p.0 long in
-    let kept = c.put_u8.auto.0 in (p.0, omega arith)
+    let kept = c.put_u8.auto.bytes in (p.0, omega arith)
 
 pub overflow_add-result : goal.overflow_add-result
 overflow_add-result c = let a = c.args in

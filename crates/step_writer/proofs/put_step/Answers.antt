@@ -17,7 +17,7 @@ overflow_add-at c = let p = c.requires in omega (arith, step-length c.args.step)
 
 pub put_name-requires : goal.put_name-requires
 put_name-requires c = let p = c.requires in
-    let kept = c.put_fixed.auto.0 in
+    let kept = c.put_fixed.auto.out in
     (p.0, omega (arith, step-length c.args.step))
 
 pub returns : goal.returns

@@ -1,0 +1,13 @@
+-- `encode::put_blocks` meets its contract: the blocks so far stand behind the place, and the next has room.
+use native.Mathlib.Omega.{arith}
+use Prim.Native.Nat.{◌≤◌, ◌-◌}
+use Rattle.model.specs.Workout.{no_block}
+use Rattle.encode.specs.Encode.{block_bytes}
+use Rattle.encode.proofs.Many.{Wrote, wrote_none, wrote-more, wrote-all, room}
+use Rattle.encode.proofs.put_blocks.Given as goal
+
+abbrev pub invariant-loop-i : goal.invariant-loop-i
+invariant-loop-i l = (l.i ≤ l.n) × Wrote block_bytes l.blocks l.initial.out l.at l.i l.place l.out
+
+abbrev pub decreases-loop-i : goal.decreases-loop-i
+decreases-loop-i l = l.n - l.i

@@ -1,0 +1,16 @@
+-- `encode::steps_size` meets its contract: the bytes of the steps so far.
+use lib.ListN.{length, take, length-append, get_or}
+use native.Mathlib.Omega.{arith}
+use mathlib.Core.List.{flat_map}
+use Prim.Native.Nat.{ℕ, ◌*◌, ◌≤◌, ◌-◌}
+use mathlib.Core.Path.{◌≡◌, ◌∙◌, ap}
+use Rattle.steps.specs.Bytes.{step_bytes}
+use Rattle.encode.proofs.Sizes.{blank_step, note-fits}
+use Rattle.encode.proofs.Many.{flat-next}
+use Rattle.encode.proofs.steps_size.Given as goal
+
+abbrev pub invariant-loop-i : goal.invariant-loop-i
+invariant-loop-i l = (l.i ≤ l.n) × (l.size ≡ length (flat_map step_bytes (take l.i l.steps))) × (l.size ≤ 35 * l.i)
+
+abbrev pub decreases-loop-i : goal.decreases-loop-i
+decreases-loop-i l = l.n - l.i

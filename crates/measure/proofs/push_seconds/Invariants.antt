@@ -1,0 +1,14 @@
+-- `push_seconds`: what is left to push gives the same minute.
+use Rattle.measure.proofs.Laws.{pushes-step, pushes-end, place-next, places-kept}
+use Rattle.measure.specs.Measure.{Minute, minute_of, pushes}
+use lib.ListN.{length}
+use native.Mathlib.Omega.{arith}
+use Prim.Native.Nat.{ℕ, ◌+◌, ◌-◌, ◌≤◌, ◌<◌}
+use mathlib.Core.Path.{◌≡◌, sym, ap, ◌∙◌}
+use Rattle.measure.proofs.push_seconds.Given as goal
+
+abbrev pub invariant-loop-i : goal.invariant-loop-i
+invariant-loop-i l = (pushes 60 (l.count - l.i) l.watts (minute_of l.r l.minute) ≡ pushes 60 l.count l.watts (minute_of l.initial.r l.initial.minute)) × (l.r.minute_at < 60) × (length l.minute ≡ 60) × (l.i ≤ l.count)
+
+abbrev pub decreases-loop-i : goal.decreases-loop-i
+decreases-loop-i l = l.count - l.i

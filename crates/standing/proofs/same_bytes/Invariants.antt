@@ -1,0 +1,16 @@
+-- `same_bytes`: what has been found, and the places from i on, give the answer of all.
+use Rattle.standing.specs.Standing.{byte_same, same_bytes}
+use Rattle.common.specs.Lists.{all_at}
+use Rattle.common.proofs.Lists.{all-at-step, all-at-end}
+use lib.ListN.{drop}
+use native.Mathlib.Omega.{arith}
+use Prim.Native.Nat.{◌≤◌, ◌-◌}
+use mathlib.Core.Path.{◌≡◌, ◌∙◌, refl}
+use mathlib.Core.Bool.{◌&&◌}
+use Rattle.standing.proofs.same_bytes.Given as goal
+
+abbrev pub invariant-loop-i : goal.invariant-loop-i
+invariant-loop-i l = (l.i ≤ 20) × ((l.ok && all_at (byte_same l.b) l.i (drop l.i l.a)) ≡ same_bytes l.a l.b)
+
+abbrev pub decreases-loop-i : goal.decreases-loop-i
+decreases-loop-i l = 20 - l.i
