@@ -1,6 +1,7 @@
 // Answers of this repository to the questions that the Rust is asked (tests/oracle/questions.rs), for tests only: one word of
 // the answer at a time, from the input's bytes.
 #![tactic(auto)]
+
 ghost use Rattle.std.specs.Prelude.{◌≡◌, ◌≤◌, min};
 ghost use Rattle.common.specs.Lists.{padded};
 ghost use Rattle.refusal.specs.Number.{answer_number};

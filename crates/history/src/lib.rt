@@ -20,6 +20,7 @@
 // Later versions only append fields before the check word and raise the version; the reader takes the fields it knows from any
 // version at least 1. What a record is written as is a definition here (specs/Record.antt).
 #![tactic(auto)]
+
 ghost use Rattle.std.specs.Prelude.{◌≡◌, ◌≤◌, ◌<◌, length, get_or};
 ghost use Rattle.power.specs.Power.{or_zero};
 ghost use Rattle.history.specs.Record.{start_at, start_ms, RecordSize};

@@ -1,6 +1,7 @@
 // player.rs: what the calls give (`Update`, `Extended`), the player that they give it with, and `extend` once only question 15 is left to
 // be asked.
 #![tactic(auto)]
+
 ghost use Rattle.std.specs.Prelude.{◌≡◌, ◌+◌, ◌≤◌, get_or};
 ghost use Rattle.model.specs.Workout.{no_step};
 ghost use Rattle.rounds.specs.Rounds.{riding};

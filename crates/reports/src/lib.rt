@@ -1,5 +1,6 @@
 // player.rs: the calls that report, and `until_end`. Each asks question 20 first, of any player value.
 #![tactic(auto)]
+
 ghost use Rattle.std.specs.Prelude.{◌≡◌};
 ghost use Rattle.refusal.specs.declared.Answer.TheVariants.{Refused};
 ghost use Rattle.state.specs.State.{part};

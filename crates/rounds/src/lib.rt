@@ -1,5 +1,6 @@
 // player.rs's `account` and the loop of `add`: an update's parts, each of which ends a step or uses the update up.
 #![tactic(auto)]
+
 ghost use Rattle.std.specs.Prelude.{◌≡◌, false, ◌+◌, ◌≤◌, ◌<◌, length};
 ghost use Rattle.state.specs.State.{SmallEnergy};
 ghost use Rattle.step_end.specs.StepEnd.{NextFits, next_of};

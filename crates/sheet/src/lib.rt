@@ -1,6 +1,7 @@
 // Document 01, 'Ride sheet': its reader, with questions 16 and 17. A sheet has a 2-byte count n, n kind bytes and n values of 8
 // bytes; it stores a list of calls, each of which document 01 calls an act.
 #![tactic(auto)]
+
 ghost use Rattle.std.specs.Prelude.{◌≡◌, ◌+◌, ◌*◌, ◌≤◌, ◌<◌, length};
 ghost use Rattle.sheet.specs.RoundTrip.{WrittenIsRead, ReadIsWritten, SampleSheet};
 ghost use Rattle.sheet.specs.Sheet.{count_in, size_ok, absent_ok, profile_at, sample_at, sample_ok, unused_at, act_ok, act_in, fault_from, accepted_all, refused_at, check_of};

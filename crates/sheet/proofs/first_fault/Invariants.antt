@@ -1,0 +1,14 @@
+-- `first_fault`: what is left has the first fault of all.
+use mathlib.Core.Path.{◌≡◌, sym, ◌∙◌}
+use Prim.Native.Nat.{◌-◌, ◌≤◌}
+use native.Mathlib.Omega.{arith}
+use borrow.Author.Tests.{not-true, not-false}
+use Rattle.sheet.specs.Sheet.{fault_from}
+use Rattle.sheet.proofs.Laws.{fault-start, fault-next, fault-here, fault-end}
+use Rattle.sheet.proofs.first_fault.Given as goal
+
+abbrev pub invariant-loop-i : goal.invariant-loop-i
+invariant-loop-i l = (l.i ≤ l.n) × (fault_from l.sheet l.n l.i (l.n - l.i) ≡ fault_from l.sheet l.n 0 l.n)
+
+abbrev pub decreases-loop-i : goal.decreases-loop-i
+decreases-loop-i l = l.n - l.i
