@@ -1,6 +1,7 @@
 // Document 01, 'Standing': every call of the player keeps it. Document 02, c: a call gives few events, and arrays of as many places are
 // enough. Document 02, i: which extends change nothing. The crate has statements and no code of its own.
 #![tactic(auto)]
+
 ghost use Rattle.keeps.specs.Keeps.{KeepsStanding};
 ghost use Rattle.keeps.specs.Few.{FewEvents};
 ghost use Rattle.keeps.specs.Places.{SmallArrays};

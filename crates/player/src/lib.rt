@@ -1,6 +1,7 @@
 // player.rs's calls that change the player: `read`, ride (the loop of `add` without its `read`), `add`, `skip` and `extend`, by the
 // default or by an amount, with document 01's questions in their order. Each takes the player and gives it back.
 #![tactic(auto)]
+
 ghost use Rattle.std.specs.Prelude.{◌≡◌, ◌≤◌, length};
 ghost use Rattle.zones.specs.Zones.{profile_ok};
 ghost use Rattle.outcomes.specs.Outcomes.{Answers};

@@ -1,5 +1,6 @@
 // history.rs's `encode` into lent bytes: the 74 bytes of a record, or a refusal that leaves all bytes.
 #![tactic(auto)]
+
 ghost use Rattle.std.specs.Prelude.{◌≡◌, true, ◌≤◌, length};
 ghost use Rattle.le.specs.Le.{written};
 ghost use Rattle.names.specs.Names.{name_ok};

@@ -1,6 +1,7 @@
 // player.rs's ride, `add` and `skip` once nothing is left to be asked: what they suppose stands in their `requires`, so that a run of
 // calls can go without asking question 20 at each.
 #![tactic(auto)]
+
 ghost use Rattle.std.specs.Prelude.{◌≡◌, true, length};
 ghost use Rattle.rounds.specs.Contracted.{Ridden};
 ghost use Rattle.standing.specs.Standing.{cadence_in};

@@ -24,7 +24,7 @@ returns-in-2 c = let a = c.args in let s = a.sheet.now in let at = place_of a.n 
 
 pub returns-in-3-to-5 : goal.returns-in-3-to-5
 unfolding act_ok
-returns-in-3-to-5 c = let a = c.args in let s = a.sheet.now in let at = place_of a.n a.i in ap₂ (λ (u v : Bool). not (eqb a.i 0) && (u && v)) c.is_unused.ensures c.is_unused-2.ensures ∙ sym (valueless (eqb a.i 0) s at _ (at_least 3 _ c.in_default-1.rest) c.in-3-to-5.if-kind-lt6-own.true)
+returns-in-3-to-5 c = let a = c.args in let s = a.sheet.now in let at = place_of a.n a.i in ap₂ (λ (u v : Bool). not (eqb a.i 0) && (u && v)) c.is_unused.ensures c.is_unused-2.ensures ∙ sym (valueless (eqb a.i 0) s at _ (at_least 3 _ c.in-3-to-5.in_default-own.rest) c.in-3-to-5.if-kind-lt6-own.true)
 
 pub returns-in_default : goal.returns-in_default
 unfolding act_ok
