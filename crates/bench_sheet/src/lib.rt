@@ -1,5 +1,6 @@
 // Document 01, 'Bench sheet': the lines marked P, proved together as one fact.
 #![tactic(auto)]
+
 ghost use Rattle.bench_sheet.specs.BenchSheet.{BenchSheet};
 ghost use Rattle.bench_sheet.specs.Facts.{Facts};
 

@@ -1,6 +1,7 @@
 // Sets one field of a player by its number, for tests only: so players are made that no list of calls reaches. The numbers stand
 // in tests/oracle/fields.rs.
 #![tactic(auto)]
+
 ghost use Rattle.std.specs.Prelude.{◌≡◌, ◌%◌};
 ghost use Rattle.compare_fields.specs.Fields.{set_number, set_lap, set_measured, set_summary, set_on, set_place, set_readings, set_core, set_workout, set_field};
 

@@ -2,6 +2,7 @@
 // file, and what writing that again gives. Whole answers for the comparison; one word at a time, beside the questions of
 // `compare`, for those and for the fixed list.
 #![tactic(auto)]
+
 ghost use Rattle.std.specs.Prelude.{◌≡◌, min, length};
 ghost use Rattle.decode.specs.Decode.{decode_of};
 ghost use Rattle.encode.specs.Encode.{encoded_of, output_of};

@@ -1,5 +1,6 @@
 // Request l: the players of four bikes, and how many watts of the supply that their brakes share one of them may draw.
 #![tactic(auto)]
+
 ghost use Rattle.std.specs.Prelude.{◌≡◌, [], ◌∷◌};
 ghost use Rattle.refusal.specs.declared.Answer.TheVariants.{Refused};
 ghost use Rattle.screen.specs.Screen.{ReportFits};

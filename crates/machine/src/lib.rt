@@ -1,5 +1,6 @@
 // Document 01, 'The millisecond machine', and the third demand. The crate has statements; its functions compute nothing.
 #![tactic(auto)]
+
 ghost use Rattle.std.specs.Prelude.{◌<◌};
 ghost use Rattle.power.specs.Power.{or_zero};
 ghost use Rattle.machine.specs.Banded.{UnderBand};

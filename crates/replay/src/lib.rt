@@ -1,6 +1,7 @@
 // Document 01: the replay of a ride sheet, with event arrays of its own. It asks the workout file, the sheet and the room for the
 // record, then plays act by act (document 01's word for an entry of a sheet) from a fresh player, and writes the record.
 #![tactic(auto)]
+
 ghost use Rattle.std.specs.Prelude.{◌≡◌, true, false, ◌+◌, ◌*◌, ◌-◌, ◌≤◌, ◌<◌, length};
 ghost use Rattle.zones.specs.Zones.{profile_ok};
 ghost use Rattle.rounds.specs.Rounds.{riding};

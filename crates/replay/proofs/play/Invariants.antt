@@ -1,0 +1,30 @@
+-- `play`: what is left of the acts gives what all of them give, and in a ride what is left of its rounds what all of them give.
+use borrow.Author.Tests.{not-true, not-false}
+use mathlib.Core.Path.{◌≡◌, refl, sym, ap, ◌∙◌}
+use Prim.Native.Nat.{◌-◌}
+use native.Mathlib.Omega.{arith}
+use lib.ListN.{length}
+use Rattle.outcomes.specs.Outcomes.{player_of}
+use Rattle.player.proofs.Laws.{asked-fits}
+use Rattle.rounds.specs.Rounds.{riding}
+use Rattle.rounds.proofs.Turns.{turn-fits, end_fits, round-ended, round-left}
+use Rattle.rounds.proofs.Loop as loop
+use Rattle.sheet.specs.declared.ActAnswer.{ActAnswer}
+use Rattle.replay.specs.Acts.{nothing_ridden, is_quiet}
+use Rattle.replay.proofs.Arms.{quiet-in, goes_on, loop-done, read_next, read-refused, totals-fit, ride-starts, ride-refused, idle-next, ride-next}
+use Rattle.replay.proofs.Sheets.{At, at-start, at_next, at-refused, at-end}
+use Rattle.replay.proofs.play.Given as goal
+
+abbrev pub invariant-loop-j : goal.invariant-loop-j
+invariant-loop-j l =
+    loop.At l.workout l.profile l.initial.minute l.initial.kinds l.initial.values l.initial.ride l.j l.minute l.kinds l.values l.ride × (length l.kinds ≡ 193) × (length l.values ≡ 193)
+
+abbrev pub decreases-loop-j : goal.decreases-loop-j
+decreases-loop-j l = 97 - l.j
+
+abbrev pub invariant-loop-i : goal.invariant-loop-i
+invariant-loop-i l =
+    At l.workout l.profile l.sheet l.n l.initial.core l.initial.minute l.core l.minute l.i × (length l.kinds ≡ 193) × (length l.values ≡ 193)
+
+abbrev pub decreases-loop-i : goal.decreases-loop-i
+decreases-loop-i l = l.n - l.i
