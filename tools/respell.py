@@ -99,6 +99,7 @@ def main():
         if "/specs/" in p:
             dashed |= {w for w in DEFINED.findall(t) if "-" in w}
     used = {w for p, t in texts.items() for w in IDENT.findall(re.sub("--.*" if p.endswith(".antt") else "//.*", "", t))}
+    used |= {snake(w) for w in used if CAMEL.match(w)}
     dashed = {w for w in dashed if w.replace("-", "_") not in used}
     for p, t in texts.items():
         new = antt(t, p, dashed) if p.endswith(".antt") else clauses(t, p, dashed)

@@ -108,13 +108,13 @@ pub record Facts : Type 0 where
   pub four : average_of (added (Some 100) (added (Some 101) (added (Some 101) (added (Some 900) no_power)))) ≡ Some 101
   pub absent : average_of (added (Some 100) (added None (added (Some 150) no_power))) ≡ Some 125
   pub lone : average_of (added None (added (Some 150) no_power)) ≡ Some 150
-  pub no_reading : average_of (added None no_power) ≡ None
+  pub no-reading : average_of (added None no_power) ≡ None
   -- model.rs, `band`: one of each kind of target, at FTP 250 and LTHR 160, some seconds into its step
   pub no_target : band_at targets.Free 0 ≡ bands.None
   pub watts_band : band_at (targets.Watts 100 200) 0 ≡ power 100 200
   pub lthr_band : band_at (targets.Lthr 81 90) 0 ≡ bands.Some (band metrics.Heart 130 144)
   pub cadence_band : band_at (targets.Cadence 85 95) 0 ≡ bands.Some (band metrics.Cadence 85 95)
-  pub ramp_band : (band_at (targets.Ramp 100 20 60) 59 ≡ power 95 110) × (band_at (targets.Ramp 100 20 60) 60 ≡ power 114 132)
+  pub ramp-band : (band_at (targets.Ramp 100 20 60) 59 ≡ power 95 110) × (band_at (targets.Ramp 100 20 60) 60 ≡ power 114 132)
   pub ftp_ramp_band : (band_at (targets.FtpRamp 50 5 60) 59 ≡ power 119 138) × (band_at (targets.FtpRamp 50 5 60) 60 ≡ power 131 152)
   -- "FTP 250, 90 to 95%: 225 to 238.": a reading at either end is In
   pub low_end : (compliance (targets.Ftp 90 95) (watts 224) ≡ how.Some Under) × (compliance (targets.Ftp 90 95) (watts 225) ≡ how.Some In)

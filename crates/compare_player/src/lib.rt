@@ -1,6 +1,7 @@
 // Plays a list of calls on the player of a workout file by the calls of this repository, and answers with words after each, for
 // tests only (tests/oracle/played.rs has the layout).
 #![tactic(auto)]
+
 ghost use Rattle.std.specs.Prelude.{◌≡◌, ◌≤◌, ◌<◌, min, length};
 ghost use Rattle.compare_files.specs.Files.{filled};
 ghost use Rattle.compare_player.specs.Calls.{mixed, check_from, reading_from, call_at, sample_of, turn_of, read_turn, ride_turn, add_turn, skip_turn, extended_turn, extend_with_turn, extend_turn, set_turn, played, looked_at, turned, begun, seen_after, next_seen, word_after, player_word, any_word};

@@ -1,6 +1,7 @@
 // Answers of this repository on ride records (tests/oracle/compare_records.rs), for tests only: what is read of a record, one word at
 // a time, what it is written as again, and what a record of given fields is written as.
 #![tactic(auto)]
+
 ghost use Rattle.std.specs.Prelude.{◌≡◌, cond, ◌≤◌, length};
 ghost use Rattle.refusal.specs.Number.{answer_number};
 ghost use Rattle.history.specs.Decode.{decode_of};

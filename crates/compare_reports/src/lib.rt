@@ -1,6 +1,7 @@
 // What a player's call gave and what the reports say after it, as the words that the Rust's are compared with
 // (tests/oracle/played.rs has the layout), for tests only.
 #![tactic(auto)]
+
 ghost use Rattle.std.specs.Prelude.{◌≡◌, cond, ◌%◌};
 ghost use Rattle.compare_reports.specs.Words.{reading_word, pct_word, summary_word, given_word, has_secs, secs_value, amount_word, compliance_word, left_kind, left_value, readout_kind, readout_value, shown_word, now_word, reported_of, seen_word};
 

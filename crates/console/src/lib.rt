@@ -2,6 +2,7 @@
 // for whether it is dated .., and gets the record, or the refusal's number and, where it names one, its act". include/console.h has
 // its C header.
 #![tactic(auto)]
+
 ghost use Rattle.std.specs.Prelude.{◌≡◌, length};
 ghost use Rattle.replay.specs.Replay.{replay_answer, replay_output};
 ghost use Rattle.console.specs.Console.{act_number, replayed_of, is_yes};

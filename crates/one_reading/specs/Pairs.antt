@@ -51,7 +51,7 @@ pub record Gives (w : Workout) (q : TwoLists) (f g t T : ℕ) : Type 0 where
 
 pub record SamplePairs : Type 0 where
   -- d 1, t 1, T 1,000: rounded down the bound would be 0
-  pub last_ms : Comparable short_test profile (last_ms 1) × Gives short_test (last_ms 1) 95 96 1 1000
+  pub last-ms : Comparable short_test profile (last_ms 1) × Gives short_test (last_ms 1) 95 96 1 1000
   pub last_ms_met : 95 + most_rise short_test profile (last_ms 1) ≡ 96
   pub rounded_down : 95 + 1 * 1 / 1000 < 96
   -- d 1,001, t 1, T 1,000: of 95 percent, as an FTP is of the mean, the bound would be 1
@@ -59,8 +59,8 @@ pub record SamplePairs : Type 0 where
   pub percent_met : 95 + most_rise short_test profile (last_ms 1001) ≡ 97
   pub of_95_percent : 95 + quotient_up (95 * (1001 * 1)) (100 * 1000) < 97
   -- d 60, t 600, T 2,000: the bound is 18
-  pub part_of_test : Comparable among_steps profile part_of_test × Gives among_steps part_of_test 125 143 600 2000
+  pub part-of-test : Comparable among_steps profile part_of_test × Gives among_steps part_of_test 125 143 600 2000
   pub part_of_test_met : 125 + most_rise among_steps profile part_of_test ≡ 143
   -- with two test steps, d 19, t 1,000 and T 3,000, the second FTP is above the bound, which is 7
-  pub two_tests : (played_tests (pair Twenty) ≡ 2) × Gives (pair Twenty) in_second_test 105 124 1000 3000
+  pub two-tests : (played_tests (pair Twenty) ≡ 2) × Gives (pair Twenty) in_second_test 105 124 1000 3000
   pub two_tests_above : 105 + most_rise (pair Twenty) profile in_second_test < 124

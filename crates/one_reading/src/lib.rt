@@ -1,5 +1,6 @@
 // Document 02, n: what one reading can do to a test's FTP. The crate has statements; its functions compute nothing.
 #![tactic(auto)]
+
 ghost use Rattle.one_reading.specs.OneReading.{OneReading};
 ghost use Rattle.one_reading.specs.Pairs.{SamplePairs};
 

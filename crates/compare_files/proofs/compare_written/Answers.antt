@@ -9,4 +9,4 @@ use Rattle.compare_files.proofs.compare_written.Goals as goal
 pub returns : goal.returns
 returns c = let a = c.args in
     let read = c.decode-read.ensures in
-    let wrote = c.encode.ensures in  record { value = c.written_number.ensures ∙ ap written_number (wrote.0 ∙ ap (λ (r : Decoded). encoded_of r.workout (length a.out.now)) read); out_after = wrote.1.0 ∙ ap (λ (r : Decoded). output_of r.workout a.out.now) read }
+    let wrote = c.encode.ensures in record { value = c.written_number.ensures ∙ ap written_number (wrote.value ∙ ap (λ (r : Decoded). encoded_of r.workout (length a.out.now)) read); out_after = wrote.out_after ∙ ap (λ (r : Decoded). output_of r.workout a.out.now) read }

@@ -1,0 +1,7 @@
+-- `compare_player::extend_with` plays one `extend_with`, from what it ensures.
+use mathlib.Core.Path.{◌∙◌, ap}
+use Rattle.compare_player.specs.Calls.{extended_turn}
+use Rattle.compare_player.proofs.extend_with.Goals as goal
+
+pub returns : goal.returns
+returns c = c.extended_turn.ensures ∙ ap extended_turn c.extend_with.ensures

@@ -1,0 +1,23 @@
+-- `compare_player::seen_at` plays the first k calls. The invariant: the player is that after i calls.
+use mathlib.Core.Path.{◌≡◌, ◌∙◌, ap}
+use Prim.Native.Nat.{◌≤◌, ◌-◌}
+use native.Mathlib.Omega.{arith}
+use Rattle.compare_player.proofs.Laws.{seen-turn}
+use Rattle.compare_player.specs.Calls.{seen_after, turned}
+use Rattle.compare_player.specs.declared.Seen.{Seen}
+use Rattle.compare_player.proofs.seen_at.Goals as goal
+
+pub loop-i-init : goal.loop-i-init
+unfolding seen_after
+loop-i-init c = (omega arith, c.begin-seen.ensures)
+
+pub loop-i-smaller : goal.loop-i-smaller
+loop-i-smaller c = omega arith
+
+pub loop-i-preserved : goal.loop-i-preserved
+loop-i-preserved c = let a = c.args in
+    let at = c.loop-i in
+    (omega arith, c.take_turn-seen.ensures ∙ ap (λ (s : Seen). turned a.calls.now s at.i) at.invariant.1 ∙ seen-turn a.file.now a.calls.now at.i)
+
+pub returns : goal.returns
+returns c = let a = c.args in c.loop-i.invariant.1 ∙ ap (seen_after a.file.now a.calls.now) (omega arith)
