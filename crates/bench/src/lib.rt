@@ -1,6 +1,7 @@
 // The calls that bench/run times from outside: `crc32`; reading and writing a workout file and a ride record; rides of 250 ms, with
 // question 20 at each and without; what one of four bikes gets of a supply.
 #![tactic(auto)]
+
 ghost use Rattle.std.specs.Prelude.{◌≡◌, true, length};
 ghost use Rattle.checksum.specs.V42.{check_of};
 ghost use Rattle.refusal.specs.Number.{answer_number};

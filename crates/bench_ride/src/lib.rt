@@ -2,6 +2,7 @@
 // as one fact; and the same workout with each kind of extend (document 02, i). The crate has the statements; its functions compute
 // nothing.
 #![tactic(auto)]
+
 ghost use Rattle.bench_ride.specs.BenchRide.{BenchRide};
 ghost use Rattle.bench_ride.specs.Extends.{ExtendedRides};
 

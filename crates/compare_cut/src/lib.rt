@@ -1,6 +1,7 @@
 // Plays a list of calls on the player of a workout file, with event arrays of the lengths that the calls name, and answers with words
 // after each, for tests only (tests/oracle/cut.rs has the layout).
 #![tactic(auto)]
+
 ghost use Rattle.std.specs.Prelude.{◌≡◌, ◌≤◌, ◌<◌, ◌%◌, min, length};
 ghost use Rattle.compare_files.specs.Files.{filled};
 ghost use Rattle.player.specs.Calls.{skip_of};

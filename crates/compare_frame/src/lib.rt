@@ -1,6 +1,7 @@
 // The sharing rule on four wants, and the grant of four bikes that are each played by a list of calls, for tests only
 // (tests/oracle/frame.rs compares both).
 #![tactic(auto)]
+
 ghost use Rattle.std.specs.Prelude.{◌≡◌, [], ◌∷◌, ◌-◌, ◌/◌, ◌≤◌, min, length};
 ghost use Rattle.frame.specs.Frame.{grant_of};
 ghost use Rattle.compare_frame.specs.Grants.{share_word, bike_after, grant_word};

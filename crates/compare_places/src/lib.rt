@@ -2,6 +2,7 @@
 // arrays that the caller lends; answers with the places that were told before that call and with words after it, for tests only
 // (tests/oracle/places.rs has the layout).
 #![tactic(auto)]
+
 ghost use Rattle.std.specs.Prelude.{◌≡◌, ◌≤◌, min, length};
 ghost use Rattle.compare_cut.specs.Cuts.{ride_called};
 ghost use Rattle.compare_files.specs.Files.{filled};

@@ -1,6 +1,7 @@
 // Replays a workout file and a ride sheet by the call of crate `console`, and answers with words, for tests only
 // (tests/oracle/list.rs has the layout); and a word of the answer to any question of the fixed lists.
 #![tactic(auto)]
+
 ghost use Rattle.std.specs.Prelude.{◌≡◌};
 ghost use Rattle.compare_replay.specs.Replays.{given_at, word_of, replay_word, any_word};
 

@@ -1,5 +1,6 @@
 // Request l, as statements about lists of calls: four bikes' calls in whatever order, and grants between them.
 #![tactic(auto)]
+
 ghost use Rattle.frame_records.specs.Apart.{RecordsApart};
 ghost use Rattle.frame_records.specs.Accepted.{GrantsAccepted};
 ghost use Rattle.frame_records.specs.Class.{FullClass};

@@ -1,5 +1,6 @@
 // Document 01, 'Bench sheet': the line that the program `ride` prints, as bytes.
 #![tactic(auto)]
+
 ghost use Rattle.std.specs.Prelude.{◌≡◌, ◌+◌, ◌≤◌, length};
 ghost use Rattle.le.specs.Le.{written};
 ghost use Rattle.io.specs.Counts.{IsPrefixLen};

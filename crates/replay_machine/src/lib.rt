@@ -1,6 +1,7 @@
 // Document 01, 'The millisecond machine': the record that is stored is the machine's, written by the record writer after a cut list or by
 // a replay after its acts. The crate has statements; its functions compute nothing.
 #![tactic(auto)]
+
 ghost use Rattle.replay_machine.specs.ReplayMachine.{ReplayMachine};
 ghost use Rattle.replay_machine.specs.Stored.{StoredRecord};
 

@@ -9,4 +9,4 @@ use Rattle.compare_records.proofs.record_made.Goals as goal
 pub returns : goal.returns
 returns c = let a = c.args in
     let stored = c.made-stored.ensures in
-    let wrote = c.encode.ensures in record { value = c.refused_number.ensures ∙ ap answer_number (wrote.value ∙ ap (λ (r : Record). write_answer r (length a.out.now)) stored); out_after = wrote.1 ∙ ap (λ (r : Record). output_of r a.out.now) stored }
+    let wrote = c.encode.ensures in record { value = c.refused_number.ensures ∙ ap answer_number (wrote.value ∙ ap (λ (r : Record). write_answer r (length a.out.now)) stored); out_after = wrote.out_after ∙ ap (λ (r : Record). output_of r a.out.now) stored }
