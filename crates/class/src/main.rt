@@ -1,7 +1,8 @@
 // Request l as a console uses it: four bikes in a full class, the supply short, then one finishes. A line for each says what the four
 // brakes may draw. The numbers are proved too: `frame_records::full_class`.
 #![tactic(auto)]
-ghost use Rattle.std.specs.Prelude.{◌≡◌, ◌<◌};
+
+ghost use Rattle.std.specs.Prelude.{◌≡◌, ◌<◌, IfOk};
 ghost use Rattle.frame.specs.Frame.{four_grants};
 ghost use Rattle.model.specs.declared.Length.TheVariants.{Time};
 ghost use Rattle.model.specs.declared.Target.TheVariants.{Ftp};
@@ -10,10 +11,10 @@ ghost use Rattle.frame_records.specs.Apart.{after_call, changed_at};
 ghost use Rattle.frame_records.specs.Class.{one_step, rider, riders};
 
 use frame::{Bike, grant};
-use libc::STDOUT_FILENO;
 use model::{Intensity, Length, NO_BLOCK, NO_STEP, Step, Target, Test, Workout};
 use names::Name;
 use player::skip;
+use std::io;
 use zones::TrainingProfile;
 
 // What the four brakes share, in watts.
@@ -105,26 +106,21 @@ fn class_grants(bikes: [Bike; 4], supply: u32) -> [u16; 4]
     [first.watts, second.watts, third.watts, fourth.watts]
 }
 
-// Prints the grants behind a title, and gives them.
-fn print_grants(title: &[u8], bikes: [Bike; 4]) -> [u16; 4]
-    ensures { result ≡ four_grants bikes 800 }
+// Prints the grants behind a title, and gives them. Where the line can't be printed, that is the error.
+fn print_grants(rt: &impl Print, title: &str, bikes: [Bike; 4]) -> io::Result<[u16; 4]>
+    ensures { IfOk result (λ grants. grants ≡ four_grants bikes 800) }
 {
     let grants = class_grants(bikes, SUPPLY);
-    io::write_all(STDOUT_FILENO, title);
-    let mut i: usize = 0;
-    while i < 4 {
-        io::write_all(STDOUT_FILENO, b" ");
-        io::print_decimal(STDOUT_FILENO, grants[i] as u64);
-        i += 1;
-    }
-    io::write_all(STDOUT_FILENO, b"\n");
-    grants
+    let [first, second, third, fourth] = grants;
+    println!(rt; "{title} {first} {second} {third} {fourth}")?;
+    Ok(grants)
 }
 
-fn main() {
+fn main(rt: HostRuntime) -> io::Result<()> {
     let bikes = class_bikes();
     // The four want 200, 250, 300 and 180 W, which is 130 too many: bikes 1 and 2 get 210.
-    print_grants(b"supply 800 W:", bikes);
+    print_grants(&rt, "supply 800 W:", bikes)?;
     // The workout has one step, so a bike that skips it is finished and wants nothing.
-    print_grants(b"bike 2 finished:", after_skip(bikes, 2));
+    print_grants(&rt, "bike 2 finished:", after_skip(bikes, 2))?;
+    Ok(())
 }

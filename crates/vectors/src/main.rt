@@ -1,11 +1,14 @@
 // Replays the fixed lists of answers, data/answers, data/players and data/replays, which tests/oracle/vectors makes, and
 // writes for each question how many answers were compared and how many differ.
 #![tactic(auto)]
-ghost use Rattle.std.specs.Prelude.{◌≡◌, length, ◌+◌, ◌*◌, ◌≤◌};
+
+ghost use Rattle.std.specs.Prelude.{◌≡◌, length, ◌+◌, ◌*◌, ◌≤◌, IfOk};
 ghost use Rattle.io.specs.Counts.{IsPrefixLen};
 ghost use Rattle.vectors.specs.Replays.{entry_at, Within, agrees, more, compared, step_of, replay_of};
 
-use libc::STDOUT_FILENO;
+use std::fs;
+use std::io::{self, Read};
+use std::rt::Files;
 
 // What stands at a place of the list: a question, where its input ends, and how many words the answer after it has.
 #[derive(Clone, Copy, Drop)]
@@ -145,52 +148,68 @@ fn replay_all(question: u32, list: &[u8]) -> Replay
     s
 }
 
-fn report(question: u32, name: &[u8], list: &[u8]) -> Replay
-    ensures { result ≡ replay_of question list.now }
+// Where the line can't be printed, that is the error.
+fn report(rt: &impl Print, question: u32, name: &str, list: &[u8]) -> io::Result<Replay>
+    ensures { IfOk result (λ found. found ≡ replay_of question list.now) }
 {
     let found = replay_all(question, list);
-    io::write_all(STDOUT_FILENO, name);
-    io::write_all(STDOUT_FILENO, b": ");
-    io::print_decimal(STDOUT_FILENO, found.compared as u64);
-    io::write_all(STDOUT_FILENO, b" compared, ");
-    io::print_decimal(STDOUT_FILENO, found.different as u64);
-    io::write_all(STDOUT_FILENO, b" different\n");
-    found
+    let compared = found.compared;
+    let different = found.different;
+    println!(rt; "{name}: {compared} compared, {different} different")?;
+    Ok(found)
 }
 
-// No contract can say what is read. A file that is missing or too long shows in the counts.
-fn read_list(path: &[u8], bytes: &mut [u8; 524288]) -> usize
+// Reads until all places are full or the file ends, or can't be read on.
+fn read_on<R: Read>(file: &mut R, bytes: &mut [u8]) -> usize
     ensures { IsPrefixLen result bytes.new }
 {
-    let file = os::open_read(path);
-    if file < 0 {
-        os::fail(path);
-        return 0;
+    let mut size = 0;
+    while size < bytes.len() {
+        match file.read(&mut bytes[size..]) {
+            Ok(0) => return size,
+            Ok(more) => size += more,
+            Err(_) => return size,
+        }
     }
-    let size = io::read_full(file, bytes);
-    libc::close(file);
     size
 }
 
-fn main() {
+// No contract can say what is read. A file that is missing or too long shows in the counts.
+fn read_list<R: Files + Eprint>(rt: &R, path: &str, bytes: &mut [u8; 524288]) -> usize
+    ensures { IsPrefixLen result bytes.new }
+{
+    match fs::open(rt, path) {
+        Ok(file) => {
+            let mut open = file;
+            read_on(&mut open, bytes)
+        }
+        Err(error) => {
+            let _ = eprintln!(rt; "{path}: {error}");
+            0
+        }
+    }
+}
+
+fn main(rt: HostRuntime) -> io::Result<()> {
     let mut bytes = [0u8; 524288];
-    let answers = read_list(b"answers", &mut bytes);
+    let answers = read_list(&rt, "answers", &mut bytes);
     let list = &bytes[..answers];
-    report(0, b"percent", list);
-    report(1, b"power_zone", list);
-    report(2, b"heart_zone", list);
-    report(3, b"power_range", list);
-    report(4, b"heart_range", list);
-    report(5, b"band", list);
-    report(6, b"ramp", list);
-    report(7, b"stage", list);
-    report(8, b"name", list);
-    report(9, b"validate", list);
-    report(10, b"order", list);
-    report(11, b"file", list);
-    report(12, b"written", list);
-    let players = read_list(b"players", &mut bytes);
-    report(13, b"player", &bytes[..players]);
-    let replays = read_list(b"replays", &mut bytes);
-    report(14, b"replay", &bytes[..replays]);
+    report(&rt, 0, "percent", list)?;
+    report(&rt, 1, "power_zone", list)?;
+    report(&rt, 2, "heart_zone", list)?;
+    report(&rt, 3, "power_range", list)?;
+    report(&rt, 4, "heart_range", list)?;
+    report(&rt, 5, "band", list)?;
+    report(&rt, 6, "ramp", list)?;
+    report(&rt, 7, "stage", list)?;
+    report(&rt, 8, "name", list)?;
+    report(&rt, 9, "validate", list)?;
+    report(&rt, 10, "order", list)?;
+    report(&rt, 11, "file", list)?;
+    report(&rt, 12, "written", list)?;
+    let players = read_list(&rt, "players", &mut bytes);
+    report(&rt, 13, "player", &bytes[..players])?;
+    let replays = read_list(&rt, "replays", &mut bytes);
+    report(&rt, 14, "replay", &bytes[..replays])?;
+    Ok(())
 }
