@@ -2,7 +2,7 @@
 -- some bytes with what its `decode` reads of them and what g reads as unread. `read_9` is what the Rust's `encode` wrote itself, version 1.
 -- Written by tests/oracle/record_samples.rs, compared by tests/oracle/run. The definitions are held against these, since the Rust is
 -- outside the proof.
-use Rattle.std.specs.Prelude.{◌≡◌, Bool, true, false, List, [], ◌∷◌, ◌++◌, ℕ}
+use Rattle.std.specs.Prelude.{◌≡◌, Bool, true, false, [], ◌∷◌, ◌++◌, ℕ}
 use Rattle.cursor.specs.Names.{name_of}
 use Rattle.model.specs.declared.Test.TheVariants as tests
 use Rattle.power.specs.declared.ReadingOption.{ReadingOption}

@@ -1,6 +1,6 @@
 -- A call gives few events.
 use mathlib.Core.Path.{◌≡◌, refl, sym, ap, ◌∙◌, subst}
-use mathlib.Core.Logic.{◌⊎◌, ⊎_elim}
+use mathlib.Core.Logic.{⊎_elim}
 use mathlib.Core.Bool.{Bool, true, false, cond}
 use mathlib.Core.List.{List, [], ◌∷◌, ◌++◌}
 use Prim.Native.Nat.{ℕ, zero, suc, ◌+◌, ◌-◌, ◌*◌, ◌≤◌, ◌<◌}
@@ -25,7 +25,7 @@ use Rattle.state.specs.declared.Lap.{Lap}
 use Rattle.state.specs.declared.Core.{Core}
 use Rattle.state.specs.declared.Part.{Part}
 use Rattle.state.specs.declared.Player.{Player}
-use Rattle.state.specs.State.{until_end, duration_ms, event_places, read_core}
+use Rattle.state.specs.State.{until_end, duration_ms, read_core}
 use Rattle.step_end.specs.StepEnd.{due_at, countdown_at, countdowns_to, countdowns_of, is_over, next_of}
 use Rattle.standing.specs.Standing.{standing_of, cadence_in}
 use Rattle.standing.specs.Facts.{Stands}

@@ -1,10 +1,9 @@
 -- Arrays of exactly the length that question 14 wants.
 use mathlib.Core.Path.{◌≡◌, refl, sym, ap, ◌∙◌}
-use mathlib.Core.Bool.{Bool, true, false, cond, ◌&&◌}
+use mathlib.Core.Bool.{Bool, true, false, cond}
 use Prim.Native.Nat.{ℕ, ◌+◌, ◌-◌, ◌*◌, ◌≤◌, ◌<◌, min}
 use native.Mathlib.Omega.{arith}
-use lib.Dec.{leb}
-use borrow.Author.Tests.{leb-true, le-leb}
+use borrow.Author.Tests.{le-leb}
 use Rattle.common.proofs.Tests.{and_both}
 use Rattle.refusal.specs.declared.Answer.{Answer}
 use Rattle.refusal.specs.declared.Answer.TheVariants.{Accepted}
@@ -14,7 +13,7 @@ use Rattle.zones.specs.declared.TrainingProfile.{TrainingProfile}
 use Rattle.zones.specs.Zones.{profile_ok}
 use Rattle.readings.specs.declared.Sample.{Sample}
 use Rattle.state.specs.declared.Player.{Player}
-use Rattle.state.specs.State.{event_places, update_ok}
+use Rattle.state.specs.State.{update_ok}
 use Rattle.standing.specs.Standing.{standing_of, cadence_in}
 use Rattle.step_end.specs.StepEnd.{Outcome, next_of}
 use Rattle.outcomes.specs.Outcomes.{Called, eventless}

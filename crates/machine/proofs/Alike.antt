@@ -41,7 +41,7 @@ use Rattle.readings.specs.declared.ComplianceOption.TheVariants as how
 use Rattle.power.specs.Power.{or_zero, average_of}
 use Rattle.readings.specs.Readings as readings
 use Rattle.readings.specs.Readings.{per_minute, against, judged, reading_of, compliance_of}
-use Rattle.events.specs.Events.{Event, countdown, finished, ftp, events_if}
+use Rattle.events.specs.Events.{Event, countdown, ftp, events_if}
 use Rattle.state.specs.declared.Lap.{Lap}
 use Rattle.state.specs.declared.Summary.{Summary}
 use Rattle.state.specs.declared.Measured.{Measured}

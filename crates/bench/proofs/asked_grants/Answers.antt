@@ -1,6 +1,6 @@
 -- `asked_grants`: the watts of the first i grants, each of 16 bits.
 use mathlib.Core.Path.{◌≡◌, ap, ap₂, ◌∙◌}
-use Prim.Native.Nat.{◌+◌, ◌*◌, ◌-◌, ◌≤◌}
+use Prim.Native.Nat.{◌+◌}
 use native.Mathlib.Omega.{arith}
 use Rattle.bench.specs.Grants.{asked_bikes, watts_total}
 use Rattle.bench.proofs.Laws.{total-start, total-next}

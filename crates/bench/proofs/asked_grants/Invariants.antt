@@ -1,9 +1,7 @@
 -- `asked_grants`: the watts of the first i grants, each of 16 bits.
-use mathlib.Core.Path.{◌≡◌, ap, ap₂, ◌∙◌}
-use Prim.Native.Nat.{◌+◌, ◌*◌, ◌-◌, ◌≤◌}
-use native.Mathlib.Omega.{arith}
-use Rattle.bench.specs.Grants.{asked_bikes, watts_total}
-use Rattle.bench.proofs.Laws.{total-start, total-next}
+use mathlib.Core.Path.{◌≡◌}
+use Prim.Native.Nat.{◌*◌, ◌-◌, ◌≤◌}
+use Rattle.bench.specs.Grants.{watts_total}
 use Rattle.bench.proofs.asked_grants.Given as goal
 
 abbrev pub invariant-loop-i : goal.invariant-loop-i

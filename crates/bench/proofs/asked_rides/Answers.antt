@@ -1,9 +1,9 @@
 -- `asked_rides`: what is left to ride gives what all of it does.
-use mathlib.Core.Path.{◌≡◌, sym, ap, ◌∙◌}
-use Prim.Native.Nat.{◌+◌, ◌-◌, ◌≤◌}
+use mathlib.Core.Path.{sym, ap, ◌∙◌}
+use Prim.Native.Nat.{◌+◌, ◌-◌}
 use native.Mathlib.Omega.{arith}
 use Rattle.state.specs.declared.Player.{Player}
-use Rattle.bench.specs.Rides.{begun_of, rides_of}
+use Rattle.bench.specs.Rides.{rides_of}
 use Rattle.bench.proofs.Laws.{rides-start, rides-next, rides-end}
 use Rattle.bench.proofs.asked_rides.Goals as goal
 

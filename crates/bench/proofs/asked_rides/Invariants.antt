@@ -1,10 +1,7 @@
 -- `asked_rides`: what is left to ride gives what all of it does.
-use mathlib.Core.Path.{◌≡◌, sym, ap, ◌∙◌}
-use Prim.Native.Nat.{◌+◌, ◌-◌, ◌≤◌}
-use native.Mathlib.Omega.{arith}
-use Rattle.state.specs.declared.Player.{Player}
+use mathlib.Core.Path.{◌≡◌}
+use Prim.Native.Nat.{◌-◌, ◌≤◌}
 use Rattle.bench.specs.Rides.{begun_of, rides_of}
-use Rattle.bench.proofs.Laws.{rides-start, rides-next, rides-end}
 use Rattle.bench.proofs.asked_rides.Given as goal
 
 abbrev pub invariant-loop-i : goal.invariant-loop-i

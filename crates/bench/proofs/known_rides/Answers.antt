@@ -1,12 +1,9 @@
 -- `known_rides`: the player stands, and what is left to ride gives what all of it does.
-use mathlib.Core.Path.{◌≡◌, sym, ap, ◌∙◌}
-use Prim.Native.Nat.{◌+◌, ◌-◌, ◌≤◌}
+use mathlib.Core.Path.{sym, ap, ◌∙◌}
+use Prim.Native.Nat.{◌+◌, ◌-◌}
 use native.Mathlib.Omega.{arith}
 use Rattle.state.specs.declared.Player.{Player}
-use Rattle.bench.specs.Rides.{begun_of, rides_of}
-use mathlib.Core.Bool.{true}
-use borrow.Author.Tests.{not-true, not-false}
-use Rattle.standing.specs.Standing.{standing_of}
+use Rattle.bench.specs.Rides.{rides_of}
 use Rattle.bench.proofs.Laws.{rides-start, rides-next, rides-end, rides-refused}
 use Rattle.bench.proofs.known_rides.Goals as goal
 

@@ -1,12 +1,11 @@
 -- The loop's invariant: from the register on, the bytes left give what all bytes give from the start.
-use mathlib.Core.Path.{◌≡◌, refl, ap, ◌∙◌}
-use Prim.Native.Nat.{ℕ, ◌≤◌, ◌-◌}
+use mathlib.Core.Path.{refl, ap, ◌∙◌}
+use Prim.Native.Nat.{ℕ}
 use native.Mathlib.Numerals.{add-one}
 use native.Mathlib.Omega.{arith}
 use lib.Bits.{bit_xor}
-use lib.ListN.{length, drop}
 use Rattle.le.proofs.Laws.{bytes}
-use Rattle.checksum.specs.Register.{ones, shift, shifts, remainders, bytewise, table_register}
+use Rattle.checksum.specs.Register.{ones, shift, shifts, remainders, table_register}
 use Rattle.checksum.proofs.Register.{bytewise-step, bytewise-end}
 use Rattle.checksum.proofs.V42.{table-check}
 use Rattle.checksum.proofs.crc32.Goals as goal

@@ -1,10 +1,10 @@
 -- `workout_fits`: the steps below i have been asked.
 use mathlib.Core.Path.{◌≡◌, subst, sym, ap, ◌∙◌}
 use mathlib.Core.List.{List}
-use Prim.Native.Nat.{ℕ, ◌-◌, ◌≤◌}
+use Prim.Native.Nat.{ℕ}
 use native.Mathlib.Numerals.{add-one}
 use native.Mathlib.Omega.{arith}
-use lib.ListN.{length, take, length-map}
+use lib.ListN.{length, take}
 use lib.Seq.{take-suc, take_all}
 use Rattle.model.specs.declared.Step.{Step}
 use Rattle.encode.proofs.Sizes.{blank_step}

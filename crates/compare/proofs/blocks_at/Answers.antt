@@ -1,6 +1,5 @@
 -- `compare::blocks_at` fills the array with the blocks. The invariant: the first i places are filled.
 use mathlib.Core.Path.{◌≡◌, ◌∙◌, refl, ap}
-use Prim.Native.Nat.{◌≤◌, ◌-◌}
 use native.Mathlib.Omega.{arith}
 use Rattle.compare.proofs.Places.{filled, filled_next, filled-all}
 use Rattle.compare.specs.Input.{block_at, at_places}

@@ -1,9 +1,8 @@
 -- `compare::blocks_at` fills the array with the blocks. The invariant: the first i places are filled.
-use mathlib.Core.Path.{◌≡◌, ◌∙◌, refl, ap}
+use mathlib.Core.Path.{◌≡◌}
 use Prim.Native.Nat.{◌≤◌, ◌-◌}
-use native.Mathlib.Omega.{arith}
-use Rattle.compare.proofs.Places.{filled, filled_next, filled-all}
-use Rattle.compare.specs.Input.{block_at, at_places}
+use Rattle.compare.proofs.Places.{filled}
+use Rattle.compare.specs.Input.{block_at}
 use Rattle.model.specs.Workout.{no_block}
 use Rattle.compare.proofs.blocks_at.Given as goal
 

@@ -1,6 +1,5 @@
 -- `compare::steps_at` fills the array with the steps. The invariant: the first i places are filled.
 use mathlib.Core.Path.{◌≡◌, ◌∙◌, refl, ap}
-use Prim.Native.Nat.{◌≤◌, ◌-◌}
 use native.Mathlib.Omega.{arith}
 use Rattle.compare.proofs.Places.{filled, filled_next, filled-all}
 use Rattle.compare.specs.Input.{step_at, at_places}

@@ -1,9 +1,8 @@
 -- `compare::steps_at` fills the array with the steps. The invariant: the first i places are filled.
-use mathlib.Core.Path.{◌≡◌, ◌∙◌, refl, ap}
+use mathlib.Core.Path.{◌≡◌}
 use Prim.Native.Nat.{◌≤◌, ◌-◌}
-use native.Mathlib.Omega.{arith}
-use Rattle.compare.proofs.Places.{filled, filled_next, filled-all}
-use Rattle.compare.specs.Input.{step_at, at_places}
+use Rattle.compare.proofs.Places.{filled}
+use Rattle.compare.specs.Input.{step_at}
 use Rattle.model.specs.Workout.{no_step}
 use Rattle.compare.proofs.steps_at.Given as goal
 

@@ -1,14 +1,9 @@
 -- `compare_cut::compare_cut` fills the places lent. The invariant: the first i hold their words, and the player is that after i / 13 calls.
-use mathlib.Core.Path.{◌≡◌, ◌∙◌, refl, ap}
-use Prim.Native.Nat.{◌≤◌, ◌-◌, ◌/◌, min}
-use native.Mathlib.Omega.{arith}
-use lib.ListN.{length, length-set}
-use Rattle.common.specs.Lists.{range}
-use Rattle.compare_files.proofs.Answer.{filled_next}
+use mathlib.Core.Path.{◌≡◌}
+use Prim.Native.Nat.{◌≤◌, ◌-◌, ◌/◌}
+use lib.ListN.{length}
 use Rattle.compare_files.specs.Files.{filled}
-use Rattle.compare_cut.proofs.Laws.{cut-next, word_after_lem}
-use Rattle.compare_cut.specs.Cuts.{cut_after, next_cut, word_after}
-use Rattle.compare_player.specs.declared.Seen.{Seen}
+use Rattle.compare_cut.specs.Cuts.{cut_after, word_after}
 use Rattle.compare_cut.proofs.compare_cut.Given as goal
 
 abbrev pub invariant-loop-i : goal.invariant-loop-i

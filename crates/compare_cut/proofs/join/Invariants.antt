@@ -1,8 +1,6 @@
 -- `compare_cut::join` joins event by event. The invariant: what was joined and what is left come to the whole check word.
-use mathlib.Core.Path.{◌≡◌, ◌∙◌, sym, ap}
-use Prim.Native.Nat.{◌+◌, ℕ, ◌≤◌, ◌<◌, ◌-◌, ◌%◌, min}
-use native.Mathlib.Omega.{arith}
-use Rattle.compare_cut.proofs.Laws.{joined-start, joined-next, joined_end}
+use mathlib.Core.Path.{◌≡◌}
+use Prim.Native.Nat.{◌≤◌, ◌<◌, ◌-◌, ◌%◌}
 use Rattle.compare_cut.specs.Cuts.{joined_from}
 use Rattle.compare_cut.proofs.join.Given as goal
 

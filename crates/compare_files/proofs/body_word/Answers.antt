@@ -1,8 +1,8 @@
 -- `compare_files::body_word` gives a word of a step, or past the steps one of the rest.
-use mathlib.Core.Path.{◌≡◌, ◌∙◌, ap, sym}
+use mathlib.Core.Path.{◌≡◌, ◌∙◌, ap}
 use Prim.Native.Nat.{◌/◌, ◌%◌}
 use native.Mathlib.Omega.{arith}
-use lib.ListN.{length, length-map}
+use lib.ListN.{length}
 use borrow.Author.Tests.{lt-ltb, le-ltb}
 use Rattle.common.proofs.Lists.{get_d_any}
 use Rattle.model.specs.Workout.{no_step}

@@ -1,6 +1,6 @@
 -- `compare_files::compare_file` fills the places lent. The invariant: the first i hold their words, the others what they held.
 use mathlib.Core.Path.{◌≡◌, ◌∙◌, refl, ap}
-use Prim.Native.Nat.{◌≤◌, ◌-◌, min}
+use Prim.Native.Nat.{min}
 use native.Mathlib.Omega.{arith}
 use lib.ListN.{length, length-set}
 use Rattle.common.specs.Lists.{range}

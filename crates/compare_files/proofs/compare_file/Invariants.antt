@@ -1,11 +1,7 @@
 -- `compare_files::compare_file` fills the places lent. The invariant: the first i hold their words, the others what they held.
-use mathlib.Core.Path.{◌≡◌, ◌∙◌, refl, ap}
-use Prim.Native.Nat.{◌≤◌, ◌-◌, min}
-use native.Mathlib.Omega.{arith}
-use lib.ListN.{length, length-set}
-use Rattle.common.specs.Lists.{range}
-use Rattle.decode.specs.declared.Decoded.{Decoded}
-use Rattle.compare_files.proofs.Answer.{filled_next}
+use mathlib.Core.Path.{◌≡◌}
+use Prim.Native.Nat.{◌≤◌, ◌-◌}
+use lib.ListN.{length}
 use Rattle.compare_files.specs.Files.{filled, file_word}
 use Rattle.compare_files.proofs.compare_file.Given as goal
 

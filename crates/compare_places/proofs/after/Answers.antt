@@ -1,6 +1,5 @@
 -- `compare_places::after` plays the first calls. The invariant: the player is that after i calls.
-use mathlib.Core.Path.{◌≡◌, ◌∙◌, ap}
-use Prim.Native.Nat.{◌≤◌, ◌-◌}
+use mathlib.Core.Path.{◌∙◌, ap}
 use native.Mathlib.Omega.{arith}
 use Rattle.compare_player.specs.Calls.{call_at}
 use Rattle.compare_player.specs.declared.Call.{Call}

@@ -1,5 +1,5 @@
 -- `compare_places::compare_places` plays the calls before the last, and then the last one with the arrays lent.
-use mathlib.Core.Path.{◌≡◌, ◌∙◌, ap}
+use mathlib.Core.Path.{◌∙◌, ap}
 use Prim.Native.Nat.{ℕ, min}
 use lib.ListN.{length}
 use Rattle.compare_files.specs.Files.{filled}

@@ -1,10 +1,7 @@
 -- `compare_places::fill` fills the places lent. The invariant: the first i hold their words.
-use mathlib.Core.Path.{◌≡◌, ◌∙◌, refl, ap}
-use Prim.Native.Nat.{◌≤◌, ◌-◌, min}
-use native.Mathlib.Omega.{arith}
-use lib.ListN.{length, length-set}
-use Rattle.common.specs.Lists.{range}
-use Rattle.compare_files.proofs.Answer.{filled_next}
+use mathlib.Core.Path.{◌≡◌}
+use Prim.Native.Nat.{◌≤◌, ◌-◌}
+use lib.ListN.{length}
 use Rattle.compare_files.specs.Files.{filled}
 use Rattle.compare_places.specs.Places.{place_word}
 use Rattle.compare_places.proofs.fill.Given as goal

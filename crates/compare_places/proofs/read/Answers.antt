@@ -3,7 +3,6 @@ use mathlib.Core.Path.{◌∙◌, ap}
 use Rattle.outcomes.specs.Outcomes.{eventless_update}
 use Rattle.outcomes.specs.declared.Update.{Update}
 use Rattle.player.specs.Calls.{read_of}
-use Rattle.readings.specs.declared.Sample.{Sample}
 use Rattle.compare_places.proofs.read.Goals as goal
 
 pub returns : goal.returns

@@ -1,6 +1,6 @@
 -- `compare_player::check_of` mixes event by event. The invariant: what was mixed and what is left come to the whole check word.
-use mathlib.Core.Path.{◌≡◌, ◌∙◌, sym, ap}
-use Prim.Native.Nat.{◌+◌, ℕ, ◌≤◌, ◌<◌, ◌-◌}
+use mathlib.Core.Path.{◌∙◌, sym, ap}
+use Prim.Native.Nat.{◌+◌, ℕ, ◌-◌}
 use native.Mathlib.Omega.{arith}
 use Rattle.compare_player.proofs.Laws.{check-start, check-next, check-end}
 use Rattle.compare_player.specs.Calls.{check_from}

@@ -1,8 +1,6 @@
 -- `compare_player::check_of` mixes event by event. The invariant: what was mixed and what is left come to the whole check word.
-use mathlib.Core.Path.{◌≡◌, ◌∙◌, sym, ap}
-use Prim.Native.Nat.{◌+◌, ℕ, ◌≤◌, ◌<◌, ◌-◌}
-use native.Mathlib.Omega.{arith}
-use Rattle.compare_player.proofs.Laws.{check-start, check-next, check-end}
+use mathlib.Core.Path.{◌≡◌}
+use Prim.Native.Nat.{◌≤◌, ◌<◌, ◌-◌}
 use Rattle.compare_player.specs.Calls.{check_from}
 use Rattle.compare_player.proofs.check_of.Given as goal
 

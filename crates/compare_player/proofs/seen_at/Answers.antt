@@ -1,6 +1,5 @@
 -- `compare_player::seen_at` plays the first k calls. The invariant: the player is that after i calls.
-use mathlib.Core.Path.{◌≡◌, ◌∙◌, ap}
-use Prim.Native.Nat.{◌≤◌, ◌-◌}
+use mathlib.Core.Path.{◌∙◌, ap}
 use native.Mathlib.Omega.{arith}
 use Rattle.compare_player.proofs.Laws.{seen-turn}
 use Rattle.compare_player.specs.Calls.{seen_after, turned}

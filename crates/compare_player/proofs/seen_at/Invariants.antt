@@ -1,10 +1,7 @@
 -- `compare_player::seen_at` plays the first k calls. The invariant: the player is that after i calls.
-use mathlib.Core.Path.{◌≡◌, ◌∙◌, ap}
+use mathlib.Core.Path.{◌≡◌}
 use Prim.Native.Nat.{◌≤◌, ◌-◌}
-use native.Mathlib.Omega.{arith}
-use Rattle.compare_player.proofs.Laws.{seen-turn}
-use Rattle.compare_player.specs.Calls.{seen_after, turned}
-use Rattle.compare_player.specs.declared.Seen.{Seen}
+use Rattle.compare_player.specs.Calls.{seen_after}
 use Rattle.compare_player.proofs.seen_at.Given as goal
 
 abbrev pub invariant-loop-i : goal.invariant-loop-i

@@ -1,11 +1,9 @@
 -- `all_allowed`: what has been found, and the bytes from i on, give the answer of all bytes.
-use mathlib.Core.Bool.{Bool, ◌&&◌}
-use mathlib.Core.Path.{◌≡◌, sym, ap, ◌∙◌, refl}
-use Prim.Native.Nat.{◌+◌, ◌-◌, ◌≤◌}
-use native.Mathlib.Omega.{arith}
-use lib.ListN.{length, take, drop, length-take, length-drop}
+use mathlib.Core.Bool.{◌&&◌}
+use mathlib.Core.Path.{◌≡◌}
+use Prim.Native.Nat.{◌-◌, ◌≤◌}
+use lib.ListN.{take, drop}
 use Rattle.names.specs.Names.{allowed}
-use Rattle.common.proofs.Lists.{all-step, all_end, get_d_part}
 use Rattle.common.specs.Lists.{all}
 use Rattle.cursor.proofs.all_allowed.Given as goal
 

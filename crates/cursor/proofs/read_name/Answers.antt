@@ -2,7 +2,6 @@
 use mathlib.Core.Path.{sym, ◌∙◌}
 use native.Mathlib.Omega.{arith}
 use lib.ListN.{length-drop}
-use borrow.Author.Tests.{not-true, not-false}
 use Rattle.cursor.proofs.Laws.{byte-given, taken-given, name-none, name-long, name-short, name-bad, name-read}
 use Rattle.cursor.proofs.read_name.Goals as goal
 

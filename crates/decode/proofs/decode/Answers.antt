@@ -1,5 +1,4 @@
 -- `decode::decode` meets its contract: each return is the first of the questions 1 to 4 that fails, or the contents.
-use borrow.Author.Tests.{not-true, not-false}
 use lib.ListN.{length-take}
 use native.Mathlib.Omega.{arith}
 use mathlib.Core.Path.{sym, ◌∙◌}

@@ -1,12 +1,8 @@
 -- `decode::read_blocks` meets its contract: the array holds the blocks read so far, and the rest is still to be read.
-use native.Mathlib.Omega.{arith}
 use Prim.Native.Nat.{◌-◌, ◌≤◌}
-use mathlib.Core.Path.{sym, ap, ◌∙◌}
-use Rattle.refusal.specs.declared.Refusal.TheVariants as refusals
 use Rattle.model.specs.Workout.{no_block}
-use Rattle.cursor.proofs.Many.{Progress, progress_start, progress_step, progress-stop, progress-end}
-use Rattle.decode.proofs.Parts.{block-given, block-ended, blocks-read}
-use Rattle.decode.specs.Decode.{read_block, blocks_by}
+use Rattle.cursor.proofs.Many.{Progress}
+use Rattle.decode.specs.Decode.{read_block}
 use Rattle.decode.proofs.read_blocks.Given as goal
 
 abbrev pub invariant-loop-i : goal.invariant-loop-i

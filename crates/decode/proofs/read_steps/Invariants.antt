@@ -1,13 +1,8 @@
 -- `decode::read_steps` meets its contract: the array holds the steps read so far, and the rest is still to be read.
-use native.Mathlib.Omega.{arith}
 use Prim.Native.Nat.{◌-◌, ◌≤◌}
-use mathlib.Core.Path.{sym, ap, ◌∙◌}
-use Rattle.steps.specs.declared.StepRead.{StepRead}
 use Rattle.steps.specs.Steps.{read_step}
 use Rattle.model.specs.Workout.{no_step}
-use Rattle.cursor.proofs.Many.{Progress, progress_start, progress_step, progress-stop, progress-end}
-use Rattle.decode.proofs.Parts.{step-at, step-refused, steps-read}
-use Rattle.decode.specs.Decode.{steps_by}
+use Rattle.cursor.proofs.Many.{Progress}
 use Rattle.decode.proofs.read_steps.Given as goal
 
 abbrev pub invariant-loop-i : goal.invariant-loop-i

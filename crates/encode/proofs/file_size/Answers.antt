@@ -1,7 +1,7 @@
 -- `encode::file_size` meets its contract: the lengths of the parts, and of the check word.
-use lib.ListN.{length, length-map}
+use lib.ListN.{length}
 use native.Mathlib.Omega.{arith}
-use mathlib.Core.Path.{◌≡◌, sym, ◌∙◌}
+use mathlib.Core.Path.{◌≡◌}
 use Rattle.encode.proofs.File.{form-parts, file-size}
 use borrow.Author.Rules.{rules}
 use Rattle.encode.proofs.file_size.Goals as goal

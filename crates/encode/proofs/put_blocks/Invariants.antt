@@ -1,9 +1,7 @@
 -- `encode::put_blocks` meets its contract: the blocks so far stand behind the place, and the next has room.
-use native.Mathlib.Omega.{arith}
 use Prim.Native.Nat.{◌≤◌, ◌-◌}
-use Rattle.model.specs.Workout.{no_block}
 use Rattle.encode.specs.Encode.{block_bytes}
-use Rattle.encode.proofs.Many.{Wrote, wrote_none, wrote-more, wrote-all, room}
+use Rattle.encode.proofs.Many.{Wrote}
 use Rattle.encode.proofs.put_blocks.Given as goal
 
 abbrev pub invariant-loop-i : goal.invariant-loop-i

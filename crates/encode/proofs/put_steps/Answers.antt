@@ -1,9 +1,8 @@
 -- `encode::put_steps` meets its contract: the steps so far stand behind the place, and the next has room.
 use native.Mathlib.Omega.{arith}
-use Prim.Native.Nat.{◌≤◌, ◌-◌}
 use Rattle.steps.specs.Bytes.{step_bytes}
 use Rattle.encode.proofs.Sizes.{note-fits}
-use Rattle.encode.proofs.Many.{Wrote, wrote_none, wrote-more, wrote-all, room}
+use Rattle.encode.proofs.Many.{wrote_none, wrote-more, wrote-all, room}
 use Rattle.encode.proofs.put_steps.Goals as goal
 
 pub loop-i-init : goal.loop-i-init

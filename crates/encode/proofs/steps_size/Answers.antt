@@ -2,7 +2,7 @@
 use lib.ListN.{length, take, length-append, get_or}
 use native.Mathlib.Omega.{arith}
 use mathlib.Core.List.{flat_map}
-use Prim.Native.Nat.{ℕ, ◌*◌, ◌≤◌, ◌-◌}
+use Prim.Native.Nat.{ℕ}
 use mathlib.Core.Path.{◌≡◌, ◌∙◌, ap}
 use Rattle.steps.specs.Bytes.{step_bytes}
 use Rattle.encode.proofs.Sizes.{blank_step, note-fits}

@@ -1,12 +1,9 @@
 -- `encode::steps_size` meets its contract: the bytes of the steps so far.
-use lib.ListN.{length, take, length-append, get_or}
-use native.Mathlib.Omega.{arith}
+use lib.ListN.{length, take}
 use mathlib.Core.List.{flat_map}
-use Prim.Native.Nat.{ℕ, ◌*◌, ◌≤◌, ◌-◌}
-use mathlib.Core.Path.{◌≡◌, ◌∙◌, ap}
+use Prim.Native.Nat.{◌*◌, ◌≤◌, ◌-◌}
+use mathlib.Core.Path.{◌≡◌}
 use Rattle.steps.specs.Bytes.{step_bytes}
-use Rattle.encode.proofs.Sizes.{blank_step, note-fits}
-use Rattle.encode.proofs.Many.{flat-next}
 use Rattle.encode.proofs.steps_size.Given as goal
 
 abbrev pub invariant-loop-i : goal.invariant-loop-i

@@ -1,11 +1,7 @@
 -- `block_slots`: what has been found, and the places from i on, give the answer of all places.
-use mathlib.Core.Bool.{◌&&◌}
-use mathlib.Core.Path.{◌≡◌, ◌∙◌, refl}
-use Prim.Native.Nat.{◌≤◌, ◌-◌}
+use mathlib.Core.Path.{◌∙◌, refl}
 use native.Mathlib.Omega.{arith}
-use lib.ListN.{drop}
 use Rattle.common.proofs.Lists.{all-at-step, all-at-end, all-unused}
-use Rattle.common.specs.Lists.{all_at}
 use Rattle.form.specs.Form.{block_slot, block_slots, is_no_block}
 use Rattle.form.proofs.block_slots.Goals as goal
 

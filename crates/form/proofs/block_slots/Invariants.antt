@@ -1,12 +1,10 @@
 -- `block_slots`: what has been found, and the places from i on, give the answer of all places.
 use mathlib.Core.Bool.{◌&&◌}
-use mathlib.Core.Path.{◌≡◌, ◌∙◌, refl}
+use mathlib.Core.Path.{◌≡◌}
 use Prim.Native.Nat.{◌≤◌, ◌-◌}
-use native.Mathlib.Omega.{arith}
 use lib.ListN.{drop}
-use Rattle.common.proofs.Lists.{all-at-step, all-at-end, all-unused}
 use Rattle.common.specs.Lists.{all_at}
-use Rattle.form.specs.Form.{block_slot, block_slots, is_no_block}
+use Rattle.form.specs.Form.{block_slot}
 use Rattle.form.proofs.block_slots.Given as goal
 
 abbrev pub invariant-loop-i : goal.invariant-loop-i

@@ -1,11 +1,7 @@
 -- `step_slots`: what has been found, and the places from i on, give the answer of all places.
-use mathlib.Core.Bool.{◌&&◌}
-use mathlib.Core.Path.{◌≡◌, ◌∙◌, refl}
-use Prim.Native.Nat.{◌≤◌, ◌-◌}
+use mathlib.Core.Path.{◌∙◌, refl}
 use native.Mathlib.Omega.{arith}
-use lib.ListN.{drop}
 use Rattle.common.proofs.Lists.{all-at-step, all-at-end, all_split}
-use Rattle.common.specs.Lists.{all_at}
 use Rattle.form.specs.Form.{step_slot, step_slots, note_ok, is_no_step}
 use Rattle.form.proofs.step_slots.Goals as goal
 

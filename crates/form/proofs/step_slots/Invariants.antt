@@ -1,12 +1,10 @@
 -- `step_slots`: what has been found, and the places from i on, give the answer of all places.
 use mathlib.Core.Bool.{◌&&◌}
-use mathlib.Core.Path.{◌≡◌, ◌∙◌, refl}
+use mathlib.Core.Path.{◌≡◌}
 use Prim.Native.Nat.{◌≤◌, ◌-◌}
-use native.Mathlib.Omega.{arith}
 use lib.ListN.{drop}
-use Rattle.common.proofs.Lists.{all-at-step, all-at-end, all_split}
 use Rattle.common.specs.Lists.{all_at}
-use Rattle.form.specs.Form.{step_slot, step_slots, note_ok, is_no_step}
+use Rattle.form.specs.Form.{step_slot}
 use Rattle.form.proofs.step_slots.Given as goal
 
 abbrev pub invariant-loop-i : goal.invariant-loop-i

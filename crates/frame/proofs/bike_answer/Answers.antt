@@ -1,6 +1,5 @@
 -- `bike_answer`: 20, then 10.
 use mathlib.Core.Path.{sym, ◌∙◌}
-use borrow.Author.Tests.{not-true, not-false}
 use Rattle.zones.specs.Zones.{profile_answer}
 use Rattle.frame.specs.Frame.{bikes_answer}
 use Rattle.frame.proofs.bike_answer.Goals as goal

@@ -1,7 +1,6 @@
 -- `history::decode` meets its contract: each return is what question 18 says, or the record.
 use mathlib.Core.Path.{sym, ap, ◌∙◌}
 use native.Mathlib.Omega.{arith}
-use borrow.Author.Tests.{not-true, not-false}
 use Rattle.history.specs.Decode.{read_as}
 use Rattle.history.proofs.Laws.{whole_length, not-whole, long-name, no_test, record-read}
 use Rattle.history.proofs.decode.Goals as goal

@@ -2,7 +2,6 @@
 use mathlib.Core.Path.{sym, ◌∙◌}
 use native.Mathlib.Omega.{arith}
 use lib.ListN.{length-take}
-use borrow.Author.Tests.{not-true, not-false}
 use Rattle.history.proofs.Laws.{too_short, no-magic, no-version, no_body, no_end, by-check}
 use Rattle.history.proofs.is_whole.Goals as goal
 

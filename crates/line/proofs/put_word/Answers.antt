@@ -5,8 +5,8 @@ use Rattle.le.proofs.Laws.{written_none, written-more}
 use lib.Seq.{take_all}
 use native.Mathlib.Omega.{arith}
 use mathlib.Core.Path.{◌≡◌, ◌∙◌, refl, ap}
-use Prim.Native.Nat.{ℕ, ◌+◌, ◌≤◌, ◌-◌}
-use lib.ListN.{length, take, length-set}
+use Prim.Native.Nat.{ℕ, ◌+◌}
+use lib.ListN.{length, length-set}
 use Rattle.line.proofs.put_word.Goals as goal
 
 pub loop-i-init : goal.loop-i-init

@@ -1,12 +1,8 @@
 -- `put_word`: the first i bytes of the word stand behind the place, the rest as before.
-use mathlib.Core.List.{List}
 use Rattle.le.specs.Le.{written}
-use Rattle.le.proofs.Laws.{written_none, written-more}
-use lib.Seq.{take_all}
-use native.Mathlib.Omega.{arith}
-use mathlib.Core.Path.{◌≡◌, ◌∙◌, refl, ap}
-use Prim.Native.Nat.{ℕ, ◌+◌, ◌≤◌, ◌-◌}
-use lib.ListN.{length, take, length-set}
+use mathlib.Core.Path.{◌≡◌}
+use Prim.Native.Nat.{◌≤◌, ◌-◌}
+use lib.ListN.{length, take}
 use Rattle.line.proofs.put_word.Given as goal
 
 abbrev pub invariant-loop-i : goal.invariant-loop-i

@@ -1,5 +1,5 @@
 -- `machine::under_band` meets its contract: each millisecond of the machine and each part of a ride adds its time where there is a band.
-use mathlib.Core.Path.{◌≡◌, refl, sym, ap, ◌∙◌}
+use mathlib.Core.Path.{◌≡◌, refl, ap, ◌∙◌}
 use mathlib.Core.Bool.{Bool, true, false, cond, ◌&&◌}
 use mathlib.Core.Option.{Option, none, some}
 use mathlib.Core.List.{List, [], ◌∷◌}
@@ -31,9 +31,9 @@ use Rattle.readings.specs.Readings.{reading_of, compared, compliance_by, judged,
 use Rattle.state.specs.declared.Summary.{Summary}
 use Rattle.state.specs.State.{tallied}
 use Rattle.rounds.specs.Rounds.{Riding, advanced}
-use Rattle.machine.specs.Machine.{Tallies, Machine, start, step_at, reading, with_extra, ended, skipped, reading_for, is_under, is_in, is_over, between, judge, judge_if, judged_by, judged_in, tally, ridden, ends_now, closed, millisecond_in, millisecond, milliseconds, summary_of}
+use Rattle.machine.specs.Machine.{Tallies, Machine, start, step_at, reading, with_extra, ended, skipped, reading_for, is_under, is_in, is_over, between, judge, judge_if, judged_by, tally, ridden, ends_now, closed, millisecond_in, millisecond, milliseconds, summary_of}
 use Rattle.machine.specs.Cutting.{Call, read, ride, skip, extend, Piece, CutCall}
-use Rattle.machine.specs.Runs.{Progress, begun, read_asks, skip_asks, extra_next, extend_asks, unless_refused, after_pieces, after_call, after_calls, lasts}
+use Rattle.machine.specs.Runs.{Progress, begun, read_asks, skip_asks, extra_next, extend_asks, unless_refused, after_call, after_calls, lasts}
 use Rattle.machine.specs.Banded.{has_band, banded, banded_ms, call_banded, list_banded, counted, counted_in}
 use Rattle.machine.proofs.Pieces.{pieces-at-once}
 use Rattle.machine.proofs.Demand.{summary-is}

@@ -1,9 +1,5 @@
 -- `minute_sum`: what has been added and what is left are the whole sum.
 use Rattle.measure.proofs.Laws.{sum_more, sum_done}
-use Rattle.common.specs.Lists.{sum}
-use lib.ListN.{drop}
-use Prim.Native.Nat.{◌+◌, ◌*◌, ◌-◌, ◌≤◌}
-use mathlib.Core.Path.{◌≡◌}
 use native.Mathlib.Omega.{arith}
 use Rattle.measure.proofs.minute_sum.Goals as goal
 

@@ -1,10 +1,8 @@
 -- `minute_sum`: what has been added and what is left are the whole sum.
-use Rattle.measure.proofs.Laws.{sum_more, sum_done}
 use Rattle.common.specs.Lists.{sum}
 use lib.ListN.{drop}
 use Prim.Native.Nat.{◌+◌, ◌*◌, ◌-◌, ◌≤◌}
 use mathlib.Core.Path.{◌≡◌}
-use native.Mathlib.Omega.{arith}
 use Rattle.measure.proofs.minute_sum.Given as goal
 
 abbrev pub invariant-loop-i : goal.invariant-loop-i

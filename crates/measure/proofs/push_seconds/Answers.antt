@@ -3,8 +3,8 @@ use Rattle.measure.proofs.Laws.{pushes-step, pushes-end, place-next, places-kept
 use Rattle.measure.specs.Measure.{Minute, minute_of, pushes}
 use lib.ListN.{length}
 use native.Mathlib.Omega.{arith}
-use Prim.Native.Nat.{ℕ, ◌+◌, ◌-◌, ◌≤◌, ◌<◌}
-use mathlib.Core.Path.{◌≡◌, sym, ap, ◌∙◌}
+use Prim.Native.Nat.{ℕ, ◌+◌, ◌-◌}
+use mathlib.Core.Path.{sym, ap, ◌∙◌}
 use Rattle.measure.proofs.push_seconds.Goals as goal
 
 pub loop-i-init : goal.loop-i-init

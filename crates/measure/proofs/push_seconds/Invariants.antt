@@ -1,10 +1,8 @@
 -- `push_seconds`: what is left to push gives the same minute.
-use Rattle.measure.proofs.Laws.{pushes-step, pushes-end, place-next, places-kept}
-use Rattle.measure.specs.Measure.{Minute, minute_of, pushes}
+use Rattle.measure.specs.Measure.{minute_of, pushes}
 use lib.ListN.{length}
-use native.Mathlib.Omega.{arith}
-use Prim.Native.Nat.{ℕ, ◌+◌, ◌-◌, ◌≤◌, ◌<◌}
-use mathlib.Core.Path.{◌≡◌, sym, ap, ◌∙◌}
+use Prim.Native.Nat.{◌-◌, ◌≤◌, ◌<◌}
+use mathlib.Core.Path.{◌≡◌}
 use Rattle.measure.proofs.push_seconds.Given as goal
 
 abbrev pub invariant-loop-i : goal.invariant-loop-i

@@ -1,11 +1,7 @@
 -- `all_timed`: what has been found, and the places from i on, give the answer of all steps in use.
-use mathlib.Core.Bool.{◌&&◌}
-use mathlib.Core.Path.{◌≡◌, ◌∙◌, refl}
-use Prim.Native.Nat.{◌≤◌, ◌-◌}
+use mathlib.Core.Path.{◌∙◌, refl}
 use native.Mathlib.Omega.{arith}
-use lib.ListN.{drop}
 use Rattle.common.proofs.Lists.{all-at-step, all-at-end, all-used}
-use Rattle.common.specs.Lists.{all_at}
 use Rattle.order.specs.Order.{timed_at, timed_step}
 use Rattle.order.proofs.all_timed.Goals as goal
 

@@ -1,12 +1,10 @@
 -- `all_timed`: what has been found, and the places from i on, give the answer of all steps in use.
 use mathlib.Core.Bool.{◌&&◌}
-use mathlib.Core.Path.{◌≡◌, ◌∙◌, refl}
+use mathlib.Core.Path.{◌≡◌}
 use Prim.Native.Nat.{◌≤◌, ◌-◌}
-use native.Mathlib.Omega.{arith}
 use lib.ListN.{drop}
-use Rattle.common.proofs.Lists.{all-at-step, all-at-end, all-used}
 use Rattle.common.specs.Lists.{all_at}
-use Rattle.order.specs.Order.{timed_at, timed_step}
+use Rattle.order.specs.Order.{timed_at}
 use Rattle.order.proofs.all_timed.Given as goal
 
 abbrev pub invariant-loop-i : goal.invariant-loop-i

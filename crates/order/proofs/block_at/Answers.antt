@@ -1,9 +1,6 @@
 -- `block_at`: no block before place i holds the step, so the search in those from there on gives the answer.
-use mathlib.Core.Path.{◌≡◌, ◌∙◌, sym, refl}
-use Prim.Native.Nat.{◌≤◌, ◌-◌}
+use mathlib.Core.Path.{◌∙◌, sym, refl}
 use native.Mathlib.Omega.{arith}
-use lib.ListN.{take, drop}
-use Rattle.order.specs.Order.{block_at}
 use Rattle.order.proofs.Laws.{block_here, block-past, block-end}
 use Rattle.order.proofs.block_at.Goals as goal
 

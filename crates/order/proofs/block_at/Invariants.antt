@@ -1,10 +1,8 @@
 -- `block_at`: no block before place i holds the step, so the search in those from there on gives the answer.
-use mathlib.Core.Path.{◌≡◌, ◌∙◌, sym, refl}
+use mathlib.Core.Path.{◌≡◌}
 use Prim.Native.Nat.{◌≤◌, ◌-◌}
-use native.Mathlib.Omega.{arith}
 use lib.ListN.{take, drop}
 use Rattle.order.specs.Order.{block_at}
-use Rattle.order.proofs.Laws.{block_here, block-past, block-end}
 use Rattle.order.proofs.block_at.Given as goal
 
 abbrev pub invariant-loop-i : goal.invariant-loop-i

@@ -1,10 +1,10 @@
 -- `place_at`: `before` in the order from step i on is `position` in the whole order.
 use mathlib.Core.List.{List}
 use mathlib.Core.Path.{◌≡◌, ◌∙◌, sym, ap}
-use Prim.Native.Nat.{◌+◌, ℕ, ◌≤◌, ◌-◌}
+use Prim.Native.Nat.{◌+◌, ℕ, ◌-◌}
 use native.Mathlib.Omega.{arith}
 use lib.ListN.{take}
-use Rattle.order.specs.Order.{block_at, piece_len, place_in, order, nth}
+use Rattle.order.specs.Order.{block_at, piece_len, place_in, nth}
 use Rattle.order.specs.declared.PlaceOption.TheVariants as place_option
 use Rattle.order.specs.declared.Place.{Place}
 use Rattle.order.specs.declared.BlockOption.{BlockOption}

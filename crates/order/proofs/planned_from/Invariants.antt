@@ -1,10 +1,7 @@
 -- `planned_from`: the seconds added and those planned from `at` on are the seconds planned from `position` on.
-use mathlib.Core.Path.{◌≡◌, ◌∙◌, ap}
+use mathlib.Core.Path.{◌≡◌}
 use Prim.Native.Nat.{◌+◌, ◌*◌, ◌≤◌, ◌-◌}
-use native.Mathlib.Omega.{arith}
-use Rattle.order.specs.Order.{played_of, played_seconds, planned_from}
-use Rattle.order.specs.declared.PlayedOption.{PlayedOption}
-use Rattle.order.proofs.Planned.{planned-step, planned-end}
+use Rattle.order.specs.Order.{planned_from}
 use Rattle.order.proofs.planned_from.Given as goal
 
 abbrev pub invariant-loop-at : goal.invariant-loop-at

@@ -1,6 +1,6 @@
 -- `played_at`: the place at the position, if there is one, and the step at it.
 use mathlib.Core.Path.{◌≡◌, ◌∙◌, sym}
-use lib.ListN.{length, length-map}
+use lib.ListN.{length}
 use Rattle.order.specs.declared.PlaceOption.TheVariants as place_option
 use Rattle.order.proofs.Planned.{played-lookup}
 use borrow.Author.Rules.{rules}

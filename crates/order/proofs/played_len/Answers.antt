@@ -1,7 +1,7 @@
 -- `played_len`: the steps in use are as many as the count says, and at most 12.
-use mathlib.Core.Path.{◌≡◌, ◌∙◌, sym}
+use mathlib.Core.Path.{◌≡◌}
 use native.Mathlib.Omega.{arith}
-use lib.ListN.{length, length-take, length-map}
+use lib.ListN.{length, length-take}
 use Rattle.order.specs.Order.{played_len}
 use borrow.Author.Rules.{rules}
 use Rattle.order.proofs.played_len.Goals as goal

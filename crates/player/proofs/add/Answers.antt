@@ -4,7 +4,6 @@ use Rattle.player.proofs.Laws.{asked-fits, update-passed, add-20, add-10, add-11
 use Rattle.standing.proofs.Known.{known}
 use Rattle.refusal.specs.declared.Refusal.TheVariants as refusals
 use Rattle.refusal.specs.declared.Answer.TheVariants.{Refused}
-use borrow.Author.Tests.{not-true, not-false}
 use mathlib.Core.Path.{sym, ◌∙◌}
 use Rattle.player.proofs.add.Goals as goal
 

@@ -1,7 +1,6 @@
 -- `extend_with`: one case for each answer and length.
 use Rattle.player.proofs.Laws.{extra-fits}
 use Rattle.player.specs.Calls.{extend_with}
-use borrow.Author.Tests.{not-true, not-false}
 use mathlib.Core.Path.{sym, ◌∙◌}
 use Rattle.player.proofs.extend_with.Goals as goal
 

@@ -1,6 +1,5 @@
 -- `read`: one case for each answer.
 use Rattle.player.specs.Calls.{read_of, read_answer}
-use borrow.Author.Tests.{not-true, not-false}
 use mathlib.Core.Path.{sym, ◌∙◌}
 use Rattle.player.proofs.read.Goals as goal
 

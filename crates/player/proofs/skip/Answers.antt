@@ -3,7 +3,6 @@ use Rattle.outcomes.proofs.Laws.{answers-is, eventless-answers}
 use Rattle.player.proofs.Laws.{few-steps, skip-20, skip-14, skip-taken, skip-supposes}
 use Rattle.refusal.specs.declared.Refusal.TheVariants as refusals
 use Rattle.refusal.specs.declared.Answer.TheVariants.{Refused}
-use borrow.Author.Tests.{not-true, not-false}
 use mathlib.Core.Path.{sym, ◌∙◌}
 use Rattle.player.proofs.skip.Goals as goal
 

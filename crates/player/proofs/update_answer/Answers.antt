@@ -1,7 +1,7 @@
 -- `update_answer`: one case for each limit.
 use Rattle.player.specs.Calls.{update_answer}
 use mathlib.Core.Path.{sym, ◌∙◌}
-use borrow.Author.Tests.{le-leb, lt-leb, not-true, not-false}
+use borrow.Author.Tests.{le-leb, lt-leb}
 use Rattle.player.proofs.update_answer.Goals as goal
 
 pub returns-then-ms-gt86400000 : goal.returns-then-ms-gt86400000

@@ -1,9 +1,6 @@
 -- `play`: what is left of the acts gives what all of them give, and in a ride what is left of its rounds what all of them give.
-use borrow.Author.Tests.{not-true, not-false}
-use mathlib.Core.Path.{◌≡◌, refl, sym, ap, ◌∙◌}
-use Prim.Native.Nat.{◌-◌}
+use mathlib.Core.Path.{refl, sym, ap, ◌∙◌}
 use native.Mathlib.Omega.{arith}
-use lib.ListN.{length}
 use Rattle.outcomes.specs.Outcomes.{player_of}
 use Rattle.player.proofs.Laws.{asked-fits}
 use Rattle.rounds.specs.Rounds.{riding}
@@ -12,7 +9,7 @@ use Rattle.rounds.proofs.Loop as loop
 use Rattle.sheet.specs.declared.ActAnswer.{ActAnswer}
 use Rattle.replay.specs.Acts.{nothing_ridden, is_quiet}
 use Rattle.replay.proofs.Arms.{quiet-in, goes_on, loop-done, read_next, read-refused, totals-fit, ride-starts, ride-refused, idle-next, ride-next}
-use Rattle.replay.proofs.Sheets.{At, at-start, at_next, at-refused, at-end}
+use Rattle.replay.proofs.Sheets.{at-start, at_next, at-refused, at-end}
 use Rattle.replay.proofs.play.Goals as goal
 
 pub loop-i-init : goal.loop-i-init

@@ -1,18 +1,9 @@
 -- `play`: what is left of the acts gives what all of them give, and in a ride what is left of its rounds what all of them give.
-use borrow.Author.Tests.{not-true, not-false}
-use mathlib.Core.Path.{◌≡◌, refl, sym, ap, ◌∙◌}
+use mathlib.Core.Path.{◌≡◌}
 use Prim.Native.Nat.{◌-◌}
-use native.Mathlib.Omega.{arith}
 use lib.ListN.{length}
-use Rattle.outcomes.specs.Outcomes.{player_of}
-use Rattle.player.proofs.Laws.{asked-fits}
-use Rattle.rounds.specs.Rounds.{riding}
-use Rattle.rounds.proofs.Turns.{turn-fits, end_fits, round-ended, round-left}
 use Rattle.rounds.proofs.Loop as loop
-use Rattle.sheet.specs.declared.ActAnswer.{ActAnswer}
-use Rattle.replay.specs.Acts.{nothing_ridden, is_quiet}
-use Rattle.replay.proofs.Arms.{quiet-in, goes_on, loop-done, read_next, read-refused, totals-fit, ride-starts, ride-refused, idle-next, ride-next}
-use Rattle.replay.proofs.Sheets.{At, at-start, at_next, at-refused, at-end}
+use Rattle.replay.proofs.Sheets.{At}
 use Rattle.replay.proofs.play.Given as goal
 
 abbrev pub invariant-loop-j : goal.invariant-loop-j

@@ -3,7 +3,7 @@ use Rattle.replay.proofs.Sheets.{fresh-made-of, fresh-ready, profile-passed, pro
 use Rattle.sheet.specs.Sheet.{acts_from}
 use Rattle.replay.specs.Acts.{nothing_ridden, play_acts}
 use Rattle.sheet.proofs.Laws.{sized}
-use lib.ListN.{length, length-map}
+use lib.ListN.{length}
 use native.Mathlib.Omega.{arith}
 use Prim.Native.Nat.{ℕ, ◌+◌, ◌*◌, ◌-◌}
 use mathlib.Core.Path.{◌≡◌, sym, ap, ◌∙◌}

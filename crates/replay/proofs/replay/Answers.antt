@@ -12,7 +12,7 @@ pub returns-in-Refused : goal.returns-in-Refused
 unfolding replay_answer
 returns-in-Refused c = let a = c.args in
     let r = c.ride_sheet-ride.ensures in
- record { value = ap (λ (x : Ridden). x.outcome) r; out_after = output-stays a.file.now a.sheet.now a.journal a.id a.start a.dated a.out.now _ (sym (ap (λ (x : Ridden). x.outcome.answer) r) ∙ c.in-Refused.is) }
+    record { value = ap (λ (x : Ridden). x.outcome) r; out_after = output-stays a.file.now a.sheet.now a.journal a.id a.start a.dated a.out.now _ (sym (ap (λ (x : Ridden). x.outcome.answer) r) ∙ c.in-Refused.is) }
 
 pub returns : goal.returns
 unfolding replay_answer
@@ -21,4 +21,4 @@ returns c = let a = c.args in
     let x = c.ride_sheet-ride.result in
     let stored = ap (λ (t : StartOption). record { journal = a.journal; ride_id = a.id; started_utc_ms = t; name = x.name; test = x.test; summary = x.summary }) c.start_of.ensures
     ∙ ap (λ (x : Ridden). replay_record x a.journal a.id a.start a.dated) r in
- record { value = ap (λ (x : Ridden). x.outcome) r; out_after = c.encode.ensures.out_after ∙ ap (λ (k : Record). output_of k a.out.now) stored ∙ output-written a.file.now a.sheet.now a.journal a.id a.start a.dated a.out.now (sym (ap (λ (x : Ridden). x.outcome.answer) r) ∙ c.in_default.is) }
+    record { value = ap (λ (x : Ridden). x.outcome) r; out_after = c.encode.ensures.out_after ∙ ap (λ (k : Record). output_of k a.out.now) stored ∙ output-written a.file.now a.sheet.now a.journal a.id a.start a.dated a.out.now (sym (ap (λ (x : Ridden). x.outcome.answer) r) ∙ c.in_default.is) }

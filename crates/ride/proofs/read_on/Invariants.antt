@@ -1,9 +1,7 @@
 -- `read_on`: what was read so far lies within the places; each turn leaves fewer.
-use lib.ListN.{length, length-take}
-use native.Mathlib.Omega.{arith}
+use lib.ListN.{length}
 use Prim.Native.Nat.{◌≤◌, ◌-◌}
 use mathlib.Core.Path.{◌≡◌}
-use borrow.Author.Rules.{rules}
 use Rattle.ride.proofs.read_on.Given as goal
 
 abbrev pub invariant-loop-size : goal.invariant-loop-size

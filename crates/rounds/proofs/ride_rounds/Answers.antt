@@ -1,9 +1,7 @@
 -- `ride_rounds`: after each round the events so far and what the rest of the loop gives are those of the whole loop (Loop).
-use Rattle.rounds.proofs.Loop.{rides-sized, At, at-start, at_next, at-stopped, at-end}
-use lib.ListN.{length}
+use Rattle.rounds.proofs.Loop.{rides-sized, at-start, at_next, at-stopped, at-end}
 use native.Mathlib.Omega.{arith}
-use Prim.Native.Nat.{◌≤◌, ◌-◌}
-use mathlib.Core.Path.{◌≡◌, refl, sym, ◌∙◌}
+use mathlib.Core.Path.{refl, sym, ◌∙◌}
 use Rattle.rounds.proofs.ride_rounds.Goals as goal
 
 pub loop-i-init : goal.loop-i-init

@@ -1,9 +1,8 @@
 -- `ride_rounds`: after each round the events so far and what the rest of the loop gives are those of the whole loop (Loop).
-use Rattle.rounds.proofs.Loop.{rides-sized, At, at-start, at_next, at-stopped, at-end}
+use Rattle.rounds.proofs.Loop.{At}
 use lib.ListN.{length}
-use native.Mathlib.Omega.{arith}
 use Prim.Native.Nat.{◌≤◌, ◌-◌}
-use mathlib.Core.Path.{◌≡◌, refl, sym, ◌∙◌}
+use mathlib.Core.Path.{◌≡◌}
 use Rattle.rounds.proofs.ride_rounds.Given as goal
 
 abbrev pub invariant-loop-i : goal.invariant-loop-i

@@ -1,10 +1,7 @@
 -- `first_fault`: what is left has the first fault of all.
-use mathlib.Core.Path.{◌≡◌, sym, ◌∙◌}
+use mathlib.Core.Path.{◌≡◌}
 use Prim.Native.Nat.{◌-◌, ◌≤◌}
-use native.Mathlib.Omega.{arith}
-use borrow.Author.Tests.{not-true, not-false}
 use Rattle.sheet.specs.Sheet.{fault_from}
-use Rattle.sheet.proofs.Laws.{fault-start, fault-next, fault-here, fault-end}
 use Rattle.sheet.proofs.first_fault.Given as goal
 
 abbrev pub invariant-loop-i : goal.invariant-loop-i

@@ -1,5 +1,5 @@
 -- `core_ok`: the totals are asked first, so that no sum or product below wraps.
-use borrow.Author.Tests.{not-true, not-false, lt-leb}
+use borrow.Author.Tests.{lt-leb}
 use Rattle.standing.specs.Standing.{core_ok}
 use mathlib.Core.Path.{sym, ◌∙◌}
 use Rattle.standing.proofs.core_ok.Goals as goal

@@ -1,6 +1,5 @@
 -- `is_standing`: workout, core and step are asked one after the other.
 use Rattle.standing.specs.Standing.{standing_of, accepted, core_ok}
-use borrow.Author.Tests.{not-true, not-false}
 use Prim.Native.Nat.{ℕ}
 use mathlib.Core.Path.{sym, ap, ◌∙◌}
 use Rattle.standing.proofs.is_standing.Goals as goal

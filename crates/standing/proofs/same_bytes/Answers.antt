@@ -1,12 +1,8 @@
 -- `same_bytes`: what has been found, and the places from i on, give the answer of all.
 use Rattle.standing.specs.Standing.{byte_same, same_bytes}
-use Rattle.common.specs.Lists.{all_at}
 use Rattle.common.proofs.Lists.{all-at-step, all-at-end}
-use lib.ListN.{drop}
 use native.Mathlib.Omega.{arith}
-use Prim.Native.Nat.{◌≤◌, ◌-◌}
-use mathlib.Core.Path.{◌≡◌, ◌∙◌, refl}
-use mathlib.Core.Bool.{◌&&◌}
+use mathlib.Core.Path.{◌∙◌, refl}
 use Rattle.standing.proofs.same_bytes.Goals as goal
 
 pub loop-i-init : goal.loop-i-init

@@ -1,11 +1,9 @@
 -- `same_bytes`: what has been found, and the places from i on, give the answer of all.
 use Rattle.standing.specs.Standing.{byte_same, same_bytes}
 use Rattle.common.specs.Lists.{all_at}
-use Rattle.common.proofs.Lists.{all-at-step, all-at-end}
 use lib.ListN.{drop}
-use native.Mathlib.Omega.{arith}
 use Prim.Native.Nat.{◌≤◌, ◌-◌}
-use mathlib.Core.Path.{◌≡◌, ◌∙◌, refl}
+use mathlib.Core.Path.{◌≡◌}
 use mathlib.Core.Bool.{◌&&◌}
 use Rattle.standing.proofs.same_bytes.Given as goal
 

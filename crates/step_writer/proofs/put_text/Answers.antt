@@ -1,6 +1,6 @@
 -- `step_writer::put_text` meets its contract: the first i bytes stand behind the place, the rest as before.
-use lib.ListN.{length, take, length-set}
-use Prim.Native.Nat.{ℕ, ◌≤◌, ◌-◌}
+use lib.ListN.{take, length-set}
+use Prim.Native.Nat.{ℕ}
 use mathlib.Core.Path.{◌≡◌, ◌∙◌, refl, ap}
 use native.Mathlib.Omega.{arith}
 use Rattle.le.proofs.Laws.{written_none, written-more}

@@ -1,9 +1,7 @@
 -- `step_writer::put_text` meets its contract: the first i bytes stand behind the place, the rest as before.
-use lib.ListN.{length, take, length-set}
-use Prim.Native.Nat.{ℕ, ◌≤◌, ◌-◌}
-use mathlib.Core.Path.{◌≡◌, ◌∙◌, refl, ap}
-use native.Mathlib.Omega.{arith}
-use Rattle.le.proofs.Laws.{written_none, written-more}
+use lib.ListN.{length, take}
+use Prim.Native.Nat.{◌≤◌, ◌-◌}
+use mathlib.Core.Path.{◌≡◌}
 use Rattle.le.specs.Le.{written}
 use Rattle.step_writer.proofs.put_text.Given as goal
 

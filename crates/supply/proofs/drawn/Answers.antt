@@ -1,11 +1,7 @@
 -- `drawn`: what has been added and what is left are the whole sum.
-use mathlib.Core.Path.{◌≡◌}
-use Prim.Native.Nat.{ℕ, ◌+◌, ◌*◌, ◌-◌, ◌≤◌, min}
+use Prim.Native.Nat.{ℕ, min}
 use native.Mathlib.Omega.{arith}
-use lib.ListN.{drop}
-use Rattle.common.specs.Lists.{sum}
 use Rattle.common.proofs.Lists.{sum_step}
-use Rattle.supply.specs.Supply.{at_level}
 use Rattle.supply.proofs.Laws.{none_left}
 use Rattle.supply.proofs.drawn.Goals as goal
 

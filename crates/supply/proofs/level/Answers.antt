@@ -1,6 +1,6 @@
 -- `level`: the low end is borne, the high end isn't, and the gap halves.
 use mathlib.Core.Path.{◌≡◌, subst}
-use Prim.Native.Nat.{ℕ, ◌+◌, ◌-◌, ◌≤◌, ◌<◌}
+use Prim.Native.Nat.{ℕ, ◌+◌, ◌<◌}
 use native.Mathlib.Omega.{arith}
 use Rattle.common.specs.Lists.{sum}
 use Rattle.supply.specs.Supply.{at_level}

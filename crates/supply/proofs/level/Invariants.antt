@@ -1,10 +1,7 @@
 -- `level`: the low end is borne, the high end isn't, and the gap halves.
-use mathlib.Core.Path.{◌≡◌, subst}
-use Prim.Native.Nat.{ℕ, ◌+◌, ◌-◌, ◌≤◌, ◌<◌}
-use native.Mathlib.Omega.{arith}
+use Prim.Native.Nat.{◌-◌, ◌≤◌, ◌<◌}
 use Rattle.common.specs.Lists.{sum}
 use Rattle.supply.specs.Supply.{at_level}
-use Rattle.supply.proofs.Laws.{nothing-at-0, above-0, all-borne, next-over}
 use Rattle.supply.proofs.level.Given as goal
 
 abbrev pub invariant-loop-high : goal.invariant-loop-high

@@ -1,11 +1,7 @@
 -- `steps_sound`: what has been found, and the places from i on, give the answer of all steps in use.
-use mathlib.Core.Bool.{◌&&◌}
-use mathlib.Core.Path.{◌≡◌, ◌∙◌, refl}
-use Prim.Native.Nat.{◌≤◌, ◌-◌}
+use mathlib.Core.Path.{◌∙◌, refl}
 use native.Mathlib.Omega.{arith}
-use lib.ListN.{drop}
 use Rattle.common.proofs.Lists.{all-at-step, all-at-end, all-used}
-use Rattle.common.specs.Lists.{all_at}
 use Rattle.validation.specs.Sound.{sound_at, step_ok}
 use Rattle.validation.proofs.steps_sound.Goals as goal
 

@@ -1,12 +1,10 @@
 -- `steps_sound`: what has been found, and the places from i on, give the answer of all steps in use.
 use mathlib.Core.Bool.{◌&&◌}
-use mathlib.Core.Path.{◌≡◌, ◌∙◌, refl}
+use mathlib.Core.Path.{◌≡◌}
 use Prim.Native.Nat.{◌≤◌, ◌-◌}
-use native.Mathlib.Omega.{arith}
 use lib.ListN.{drop}
-use Rattle.common.proofs.Lists.{all-at-step, all-at-end, all-used}
 use Rattle.common.specs.Lists.{all_at}
-use Rattle.validation.specs.Sound.{sound_at, step_ok}
+use Rattle.validation.specs.Sound.{sound_at}
 use Rattle.validation.proofs.steps_sound.Given as goal
 
 abbrev pub invariant-loop-i : goal.invariant-loop-i

@@ -2,8 +2,7 @@
 use mathlib.Core.Path.{◌≡◌, ◌∙◌, sym, ap}
 use Prim.Native.Nat.{ℕ}
 use native.Mathlib.Omega.{arith}
-use lib.ListN.{length, length-take, length-map}
-use borrow.Author.Tests.{not-true, not-false}
+use lib.ListN.{length, length-take}
 use Rattle.blocks.specs.Blocks.{blocks_sound}
 use Rattle.model.specs.Workout.{steps_of, blocks_of}
 use Rattle.validation.proofs.Laws.{no_steps, block-fault, step-fault, too_long, accepted}

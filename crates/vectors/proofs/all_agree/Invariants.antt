@@ -1,9 +1,7 @@
 -- `vectors::all_agree` compares each word. The invariant: what was found and what is left come to the whole answer.
-use mathlib.Core.Path.{◌≡◌, ◌∙◌, sym}
-use mathlib.Core.Bool.{true, ◌&&◌}
+use mathlib.Core.Path.{◌≡◌}
+use mathlib.Core.Bool.{◌&&◌}
 use Prim.Native.Nat.{◌≤◌, ◌-◌}
-use native.Mathlib.Omega.{arith}
-use Rattle.vectors.proofs.Laws.{agrees_start, agrees-next, agrees-end}
 use Rattle.vectors.specs.Replays.{agrees}
 use Rattle.vectors.proofs.all_agree.Given as goal
 

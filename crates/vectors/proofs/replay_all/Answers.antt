@@ -1,8 +1,6 @@
 -- `vectors::replay_all` takes as many steps as the list has bytes. The invariant: i steps are taken.
-use mathlib.Core.Path.{◌≡◌, ◌∙◌, refl, ap}
-use Prim.Native.Nat.{◌≤◌, ◌-◌}
+use mathlib.Core.Path.{◌∙◌, refl, ap}
 use native.Mathlib.Omega.{arith}
-use lib.ListN.{length}
 use Rattle.vectors.proofs.Laws.{steps_next_lem}
 use Rattle.vectors.specs.Replays.{step_of, steps, replay_of}
 use Rattle.vectors.proofs.replay_all.Goals as goal

@@ -1,10 +1,8 @@
 -- `vectors::replay_all` takes as many steps as the list has bytes. The invariant: i steps are taken.
-use mathlib.Core.Path.{◌≡◌, ◌∙◌, refl, ap}
+use mathlib.Core.Path.{◌≡◌}
 use Prim.Native.Nat.{◌≤◌, ◌-◌}
-use native.Mathlib.Omega.{arith}
 use lib.ListN.{length}
-use Rattle.vectors.proofs.Laws.{steps_next_lem}
-use Rattle.vectors.specs.Replays.{step_of, steps, replay_of}
+use Rattle.vectors.specs.Replays.{steps}
 use Rattle.vectors.proofs.replay_all.Given as goal
 
 abbrev pub invariant-loop-i : goal.invariant-loop-i

@@ -1,13 +1,11 @@
 -- `Name::check`: what has been found, and the bytes from i on, give the answer of all 20 bytes.
 use mathlib.Core.Bool.{Bool, ◌&&◌, and_comm}
 use mathlib.Core.Path.{◌≡◌, ◌∙◌, ap, refl}
-use Prim.Native.Nat.{◌≤◌, ◌-◌}
 use native.Mathlib.Omega.{arith}
 use lib.Dec.{leb}
-use lib.ListN.{length, drop}
+use lib.ListN.{length}
 use borrow.Author.Rules.{rules}
 use Rattle.common.proofs.Lists.{all-at-step, all-at-end, all_split}
-use Rattle.common.specs.Lists.{all_at}
 use Rattle.names.specs.Names.{name_ok, placed, allowed, is_zero}
 use Rattle.names.proofs.Name.check.Goals as goal
 

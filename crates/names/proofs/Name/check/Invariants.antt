@@ -1,14 +1,10 @@
 -- `Name::check`: what has been found, and the bytes from i on, give the answer of all 20 bytes.
-use mathlib.Core.Bool.{Bool, ◌&&◌, and_comm}
-use mathlib.Core.Path.{◌≡◌, ◌∙◌, ap, refl}
+use mathlib.Core.Bool.{◌&&◌}
+use mathlib.Core.Path.{◌≡◌}
 use Prim.Native.Nat.{◌≤◌, ◌-◌}
-use native.Mathlib.Omega.{arith}
-use lib.Dec.{leb}
-use lib.ListN.{length, drop}
-use borrow.Author.Rules.{rules}
-use Rattle.common.proofs.Lists.{all-at-step, all-at-end, all_split}
+use lib.ListN.{drop}
 use Rattle.common.specs.Lists.{all_at}
-use Rattle.names.specs.Names.{name_ok, placed, allowed, is_zero}
+use Rattle.names.specs.Names.{placed}
 use Rattle.names.proofs.Name.check.Given as goal
 
 abbrev pub invariant-loop-i : goal.invariant-loop-i

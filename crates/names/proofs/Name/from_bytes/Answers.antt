@@ -1,7 +1,7 @@
 -- `Name::from_bytes`: the first i bytes are the text's as they can be drawn, the others 0.
 use mathlib.Core.List.{map-append, List, ◌++◌, [], ◌∷◌, map}
-use mathlib.Core.Path.{◌≡◌, ◌∙◌, sym, ap, refl}
-use Prim.Native.Nat.{ℕ, ◌+◌, ◌≤◌, ◌-◌}
+use mathlib.Core.Path.{◌∙◌, sym, ap, refl}
+use Prim.Native.Nat.{ℕ, ◌+◌, ◌-◌}
 use native.Mathlib.Numerals.{add-one}
 use native.Mathlib.Omega.{arith}
 use lib.Seq.{length-take-le, take-suc}
