@@ -151,8 +151,7 @@ fn cut_word(seen: Seen, place: u32) -> u32
 }
 
 // 13 words of the fresh player, then 13 after each call, as many as there are places for.
-#[unsafe(no_mangle)]
-pub extern "C" fn compare_cut(file: &[u8], calls: &[u8], answer: &mut [u32])
+pub fn compare_cut(file: &[u8], calls: &[u8], answer: &mut [u32])
     ensures { answer.new ≡ filled (word_after file.now calls.now) answer.old (min (length answer.old) 137000) }
 {
     let n = least(answer.len(), 137000);

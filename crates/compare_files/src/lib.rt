@@ -106,8 +106,7 @@ pub fn file_word(read: Decoded, place: u32) -> u32
 }
 
 // The words of the answer on a file, as many as there are places for: the longest has 274.
-#[unsafe(no_mangle)]
-pub extern "C" fn compare_file(file: &[u8], answer: &mut [u32])
+pub fn compare_file(file: &[u8], answer: &mut [u32])
     ensures { answer.new ≡ filled (file_word (decode_of file.now)) answer.old (min (length answer.old) 280) }
 {
     let read = decode(file);
@@ -130,8 +129,7 @@ fn written_number(encoded: Encoded) -> u32
 }
 
 // What was read of a file, written again.
-#[unsafe(no_mangle)]
-pub extern "C" fn compare_written(file: &[u8], out: &mut [u8]) -> u32
+pub fn compare_written(file: &[u8], out: &mut [u8]) -> u32
     ensures value { result ≡ written_number (encoded_of (decode_of file.now).workout (length out.old)) }
     ensures out_after { out.new ≡ output_of (decode_of file.now).workout out.old }
 {
@@ -153,8 +151,7 @@ fn written_word(file: &[u8], place: u32) -> u32
 }
 
 // The word at a place of the answer to any question.
-#[unsafe(no_mangle)]
-pub extern "C" fn question_word(question: u32, input: &[u8], place: u32) -> u32
+pub fn question_word(question: u32, input: &[u8], place: u32) -> u32
     ensures { result ≡ question_word question input.now place }
 {
     match question {

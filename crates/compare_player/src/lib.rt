@@ -287,8 +287,7 @@ fn next_seen(calls: &[u8], seen: Seen, i: usize) -> Seen
 }
 
 // 80 words of the fresh player, then 80 after each call, as many as there are places for.
-#[unsafe(no_mangle)]
-pub extern "C" fn compare_player(file: &[u8], calls: &[u8], answer: &mut [u32])
+pub fn compare_player(file: &[u8], calls: &[u8], answer: &mut [u32])
     ensures { answer.new ≡ filled (word_after file.now calls.now) answer.old (min (length answer.old) 1000000) }
 {
     let n = least(answer.len(), 1000000);

@@ -129,16 +129,14 @@ fn read_word(read: RecordRead, place: u32) -> u32
 }
 
 // A word of what is read of a record: 29 in all.
-#[unsafe(no_mangle)]
-pub extern "C" fn record_word(bytes: &[u8], place: u32) -> u32
+pub fn record_word(bytes: &[u8], place: u32) -> u32
     ensures { result ≡ read_word (decode_of bytes.now) place }
 {
     read_word(decode(bytes), place)
 }
 
 // Reads a record and writes it again; the number of the writer's refusal, or 0.
-#[unsafe(no_mangle)]
-pub extern "C" fn record_written(bytes: &[u8], out: &mut [u8]) -> u32
+pub fn record_written(bytes: &[u8], out: &mut [u8]) -> u32
     ensures value { result ≡ answer_number (write_answer (decode_of bytes.now).«record» (length out.old)) }
     ensures out_after { out.new ≡ output_of (decode_of bytes.now).«record» out.old }
 {
@@ -208,8 +206,7 @@ fn made(input: &[u8]) -> Record
 }
 
 // Writes the record of given fields; the number of the writer's refusal, or 0.
-#[unsafe(no_mangle)]
-pub extern "C" fn record_made(input: &[u8], out: &mut [u8]) -> u32
+pub fn record_made(input: &[u8], out: &mut [u8]) -> u32
     ensures value { result ≡ answer_number (write_answer (made_of input.now) (length out.old)) }
     ensures out_after { out.new ≡ output_of (made_of input.now) out.old }
 {

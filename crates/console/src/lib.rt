@@ -41,8 +41,7 @@ fn in_numbers(outcome: ActAnswer) -> Replayed
 }
 
 // `dated` is 0 for no, any other number for yes. Refused, all of `out` stays.
-#[unsafe(no_mangle)]
-pub extern "C" fn replay(
+pub fn replay(
     workout: &[u8],
     sheet: &[u8],
     journal: u8,
