@@ -1,5 +1,4 @@
-// codec.rs's `Reader`: the bytes and the place in them in one struct, with thin calls over the cursor's. The borrow checker covers
-// no function over a struct that holds a reference, so these are proved by hand. What they call is covered, and so is who calls them.
+// codec.rs's `Reader`: the bytes and the place in them in one struct, with thin calls over the cursor's.
 #![tactic(auto)]
 
 ghost use Rattle.std.specs.Prelude.{◌≡◌};
@@ -33,7 +32,7 @@ fn name_at(bytes: &[u8], at: usize) -> NameRead
     cursor::read_name(bytes, Cursor { at })
 }
 
-// Where the reader stands after a call. The branch stands here, since a proof by hand has none.
+// Where the reader stands after a call.
 fn past_bytes(at: usize, taken: Taken) -> usize
     ensures { result ≡ past_bytes at taken }
 {
@@ -79,7 +78,7 @@ impl<'a> Reader<'a> {
     }
 }
 
-// A reader in a local, lent to its method. The contracts say nothing of a reader, so whoever calls these needs no proof by hand.
+// A reader in a local, lent to its method. The contracts say nothing of a reader.
 pub fn next_bytes(bytes: &[u8], cursor: Cursor, n: usize) -> Taken
     ensures { result ≡ taken_at bytes.now cursor.at n }
 {
