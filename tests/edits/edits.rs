@@ -1,10 +1,12 @@
-// Every must-fail edit is refused for its own fact, by the logs that rt leaves under target/must-fail.
+// Every must-fail edit is refused for its own fact, by what the prover says of it.
 //
 // A file crates/CRATE/must-fail/NAME.edit has one edit or more. Each begins with a line
 //     edit: LABEL in FUNCTION
 // and has its pairs of old and new text below it. FUNCTION, Type/method of a method, is the one whose proof must fail on it; there may
 // be several. A definition that only crates above use has the file of its law there, as Laws.antt.
-// rt tries all edits of a file in one check of the crate, and asks only that something is refused. Here it is asked of each:
+// `rt ci` tries all edits of a file in one check of the crate, asks only that something is refused, and keeps no log. So the functions that
+// a file names are checked here with its edits made, in a copy of the crates, as many side by side as there are processors, and what the
+// prover says is left as target/must-fail/CRATE/NAME/.log. It is asked of each edit:
 //   - Its function is refused for an error of its own proof, or, where the file has no other edit, of a law that the proof rests on.
 //   - No error is one of names or syntax, and none says that something else is to be proved of a function than its proof has, or that
 //     its facts stand elsewhere: a right program of another form would be refused for that too.
@@ -13,6 +15,8 @@
 use std::collections::{BTreeMap, BTreeSet};
 use std::fs;
 use std::path::{Path, PathBuf};
+use std::process::{Command, Stdio};
+use std::sync::Mutex;
 
 type Names = BTreeSet<String>;
 
@@ -100,8 +104,8 @@ fn body_of(text: &str, from: usize) -> usize {
             b'(' | b'[' => depth += 1,
             b')' | b']' => depth -= 1,
             b'{' if depth == 0 => {
-                let before = text[from..at].trim_end();
-                if !before.ends_with("requires") && !before.ends_with("ensures") {
+                let line = text[from..at].rsplit('\n').next().unwrap().trim_start();
+                if !line.starts_with("requires") && !line.starts_with("ensures") {
                     return at;
                 }
                 at = closing(bytes, at);
@@ -210,9 +214,10 @@ impl Crate {
             }
         }
         for function in sources.values_mut().flat_map(|source| &mut source.functions) {
-            let proof =
-                fs::read_to_string(folder.join("proofs").join(&function.name).join("Proof.antt")).unwrap_or_default();
-            function.in_proof = words(&uncommented(&proof, "--"));
+            for file in ["Invariants.antt", "Answers.antt"] {
+                let proof = fs::read_to_string(folder.join("proofs").join(&function.name).join(file)).unwrap_or_default();
+                function.in_proof.extend(words(&uncommented(&proof, "--")));
+            }
         }
         Crate { name: folder.file_name().unwrap().to_string_lossy().to_string(), sources }
     }
@@ -294,21 +299,11 @@ fn read_edits(path: &Path) -> Vec<Edit> {
 const OF_SHAPE: [&str; 6] =
     ["not in scope", "can be named from here", "has no field", "cannot be unfolded", "syntax error", "expected a "];
 
-// Whether the error is of the last line of a function's proof, `tie.spec ..`, where what is proved of it is put together: with another
-// form of the code there are other parts.
-fn of_parts(krate: &Crate, place: &str, message: &str) -> bool {
-    let last = message.split(": ").next().unwrap().ends_with("-spec`");
-    let tied = |function: &Function| {
-        function.in_proof.contains("tie") && place.contains(&format!("/proofs/{}/Proof.antt:", function.name))
-    };
-    last && krate.functions().any(tied)
-}
-
 // The errors of a log that follow from no other: place and message.
 fn errors(log: &str) -> Vec<(&str, &str)> {
     log.lines()
         .filter_map(|line| line.split_once(": error: "))
-        .filter(|(_, message)| !message.contains("so this cannot be checked"))
+        .filter(|(_, message)| !message.contains("was not checked"))
         .collect()
 }
 
@@ -322,13 +317,14 @@ fn refused(log: &str, krate: &Crate, function: &Function, alone: bool) -> bool {
     if !verdict.starts_with("not proved") {
         return false;
     }
-    let own = format!("/proofs/{}/Proof.antt:", function.name);
+    let own = format!("/proofs/{}/", function.name);
     let in_source = |line: &str| {
-        let Some((_, after)) = line.strip_prefix("note: ").and_then(|rest| rest.split_once(".rt:")) else {
+        let Some((_, after)) = line.strip_prefix("note: ").unwrap_or(line).split_once(".rt:") else {
             return false;
         };
         let number: usize = after.split(':').next().unwrap().parse().unwrap_or(0);
-        after.contains("it is not proved") && function.lines.0 <= number && number <= function.lines.1
+        let told = after.contains("it is not proved") || after.contains(": error: ");
+        told && function.lines.0 <= number && number <= function.lines.1
     };
     let found = errors(log);
     found.iter().any(|(place, _)| place.contains(&own))
@@ -336,7 +332,78 @@ fn refused(log: &str, krate: &Crate, function: &Function, alone: bool) -> bool {
         || (alone && !verdict.contains("it calls") && !found.is_empty())
 }
 
+// A copy of what is checked, with what the checkout keeps of earlier checks by links; a check replaces these and changes none.
+fn copy_crates(tree: &Path) {
+    let _ = fs::remove_dir_all(tree);
+    fs::create_dir_all(tree).unwrap();
+    let copied = Command::new("cp").args(["-al", "crates", "crates.txt"]).arg(tree).status();
+    assert!(copied.is_ok_and(|status| status.success()), "the crates can't be copied");
+}
+
+// Checks the functions that a file of edits names, with its edits made in the crate of a tree, and leaves the log.
+fn try_file(tree: &Path, krate: &str, path: &Path) {
+    let folder = tree.join("crates").join(krate);
+    let edits = read_edits(path);
+    let (mut texts, mut old, mut file): (BTreeMap<String, (String, String)>, String, String) = Default::default();
+    for line in fs::read_to_string(path).unwrap_or_default().lines() {
+        if let Some(name) = line.strip_prefix("file: ") {
+            file = name.to_string();
+        } else if let Some(text) = line.strip_prefix("old: ") {
+            old = text.to_string();
+        } else if let Some(new) = line.strip_prefix("new:") {
+            let text = fs::read_to_string(folder.join(&file)).unwrap_or_default();
+            let (_, changed) = texts.entry(file.clone()).or_insert((text.clone(), text));
+            *changed = changed.replacen(&old, new.strip_prefix(' ').unwrap_or(new), 1);
+        }
+    }
+    let write = |file: &str, text: &str| {
+        let _ = fs::remove_file(folder.join(file));
+        fs::write(folder.join(file), text).unwrap();
+    };
+    texts.iter().for_each(|(file, (_, changed))| write(file, changed));
+    let mut check = Command::new("rt");
+    check.arg("check").current_dir(&folder).stdin(Stdio::null());
+    let functions = edits.iter().flat_map(|edit| &edit.functions);
+    if functions.clone().all(|name| !name.ends_with(".antt")) {
+        for name in functions.collect::<BTreeSet<_>>() {
+            check.arg("--only").arg(format!("{krate}::{}", name.replace('/', "::")));
+        }
+    }
+    let said = check.output().expect("rt can't be run");
+    texts.iter().for_each(|(file, (text, _))| write(file, text));
+    let log = PathBuf::from("target/must-fail").join(krate).join(path.file_stem().unwrap());
+    fs::create_dir_all(&log).unwrap();
+    fs::write(log.join(".log"), [said.stdout, said.stderr].concat()).unwrap();
+}
+
+// Tries the files of edits of the crates that are named, of all where none is.
+fn try_all(folders: &[PathBuf]) {
+    let mut left: Vec<(String, PathBuf)> = Vec::new();
+    for folder in folders {
+        let krate = folder.file_name().unwrap().to_string_lossy().to_string();
+        left.extend(files_below(&folder.join("must-fail"), ".edit").into_iter().map(|path| (krate.clone(), path)));
+    }
+    let left = Mutex::new(left);
+    let workers = std::thread::available_parallelism().map_or(2, |n| n.get());
+    std::thread::scope(|scope| {
+        for worker in 0..workers {
+            let left = &left;
+            scope.spawn(move || {
+                let tree = PathBuf::from(format!("target/edits/tree{worker}"));
+                copy_crates(&tree);
+                loop {
+                    let next = left.lock().unwrap().pop();
+                    let Some((krate, path)) = next else { break };
+                    try_file(&tree, &krate, &path);
+                }
+                let _ = fs::remove_dir_all(&tree);
+            });
+        }
+    });
+}
+
 fn main() {
+    let named: Vec<String> = std::env::args().skip(1).collect();
     let (mut faults, mut tried, mut files) = (0, 0, 0);
     let mut fault = |text: String| {
         println!("{text}");
@@ -348,6 +415,8 @@ fn main() {
         .map(|entry| entry.path())
         .collect();
     folders.sort();
+    folders.retain(|folder| named.is_empty() || named.iter().any(|name| folder.ends_with(name)));
+    try_all(&folders);
     for folder in folders {
         let krate = Crate::read(&folder);
         let (mut labels, mut counts): (Names, BTreeMap<String, usize>) = (Names::new(), BTreeMap::new());
@@ -355,13 +424,13 @@ fn main() {
             let file = path.file_stem().unwrap().to_string_lossy().to_string();
             files += 1;
             let Ok(log) = fs::read_to_string(format!("target/must-fail/{}/{file}/.log", krate.name)) else {
-                fault(format!("{}/{file} wasn't tried: rt ci or rt must-fail comes first", krate.name));
+                fault(format!("{}/{file} wasn't tried", krate.name));
                 continue;
             };
             let edits = read_edits(&path);
             for (place, message) in errors(&log) {
-                if OF_SHAPE.iter().any(|phrase| message.contains(phrase)) || of_parts(&krate, place, message) {
-                    fault(format!("{}/{file}: refused for its shape: {message}", krate.name));
+                if OF_SHAPE.iter().any(|phrase| message.contains(phrase)) {
+                    fault(format!("{}/{file}: refused for its shape: {place}: {message}", krate.name));
                 }
             }
             for edit in &edits {
@@ -408,5 +477,5 @@ fn main() {
         }
     }
     println!("edits: {tried} in {files} files, {faults} faults");
-    std::process::exit(if faults == 0 && tried > 300 { 0 } else { 1 });
+    std::process::exit(if faults == 0 && (tried > 300 || !named.is_empty()) { 0 } else { 1 });
 }
