@@ -1,6 +1,6 @@
 /*
  * The console's call to the proved workout module: replays a ride sheet on a workout file and writes the ride's record.
- * Link target/staticlib/libconsole.a, which `rt staticlib console` proves and writes, for x86-64 Linux. "Document 01" is the
+ * Link target/staticlib/libconsole.a, which `tools/staticlib console` proves and writes, for x86-64 Linux. "Document 01" is the
  * paper 'Workout file, player and ride record'. All multi-byte numbers in files are little-endian, whatever the machine.
  */
 #ifndef CONSOLE_H
