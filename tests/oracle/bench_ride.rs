@@ -9,27 +9,24 @@ const HEAD: &str = "\
 -- line, and a ride that is refused. Written by tests/oracle/bench_ride.rs from examples/first and examples/refused: how the
 -- Rust's player rides, and the record's bytes by document 02's g. Compared by tests/oracle/run. The definitions are held against these,
 -- since the Rust is outside the proof.
-use mathlib.Core.Path.{_≡_}
-use mathlib.Core.List.{List, [], _∷_, _++_}
-use Prim.Native.Nat.{ℕ}
-use lib.ListN.{replicate}
-use Rattle·replay.specs.Replay.{riddenOf, replayAnswer, replayOutput}
-use Rattle·console.specs.declared.Replayed.{Replayed}
-use Rattle·console.specs.Console.{replayedOf, isYes}
-use Rattle·line.specs.Line.{lineOf}
+use Rattle.std.specs.Prelude.{◌≡◌, List, [], ◌∷◌, ◌++◌, ℕ, replicate}
+use Rattle.replay.specs.Replay.{ridden_of, replay_answer, replay_output}
+use Rattle.console.specs.declared.Replayed.{Replayed}
+use Rattle.console.specs.Console.{replayed_of, is_yes}
+use Rattle.line.specs.Line.{line_of}
 ";
 
 const CALLED: &str = "\
 -- The C call, lent the 74 bytes of a record, all of them 0: its answer, and the bytes after it. Journal `i`, id 7, a start, dated.
 abbrev pub answered : List ℕ → List ℕ → Replayed
-answered file sheet = replayedOf (replayAnswer file sheet 74)
+answered file sheet = replayed_of (replay_answer file sheet 74)
 
 abbrev pub left : List ℕ → List ℕ → List ℕ
-left file sheet = replayOutput file sheet 105 7 1700000000000 (isYes 1) (replicate 74 0)
+left file sheet = replay_output file sheet 105 7 1700000000000 (is_yes 1) (replicate 74 0)
 
 -- The program's line.
 abbrev pub printed : List ℕ → List ℕ → List ℕ
-printed file sheet = lineOf (riddenOf file sheet 74)
+printed file sheet = line_of (ridden_of file sheet 74)
 ";
 
 /// The bytes in rows of ten.
@@ -60,21 +57,21 @@ fn main() {
     define("sheet", "examples/first/ride.bin", &first.sheet);
     define("stored", "the record, of which the Rust reads every field that it knows", &given.record);
     define("line", &format!("`{}`", given.line().trim_end()), given.line().as_bytes());
-    define("refusedFile", "examples/refused/workout.bin", &refused.workout);
-    define("refusedSheet", "examples/refused/ride.bin", &refused.sheet);
-    define("refusedLine", &format!("`{}`", why.line().trim_end()), why.line().as_bytes());
+    define("refused_file", "examples/refused/workout.bin", &refused.workout);
+    define("refused_sheet", "examples/refused/ride.bin", &refused.sheet);
+    define("refused_line", &format!("`{}`", why.line().trim_end()), why.line().as_bytes());
     println!("{CALLED}");
     println!("pub record BenchRide : Type 0 where");
     for (what, definition) in [
         ("accepted", format!("answered file sheet ≡ record {{ refusal = {}; act = {} }}", given.refusal, given.act)),
-        ("record-is", "left file sheet ≡ stored".to_string()),
-        ("line-is", "printed file sheet ≡ line".to_string()),
+        ("record_is", "left file sheet ≡ stored".to_string()),
+        ("line_is", "printed file sheet ≡ line".to_string()),
         (
             "refused",
-            format!("answered refusedFile refusedSheet ≡ record {{ refusal = {}; act = {} }}", why.refusal, why.act),
+            format!("answered refused_file refused_sheet ≡ record {{ refusal = {}; act = {} }}", why.refusal, why.act),
         ),
-        ("stays", "left refusedFile refusedSheet ≡ replicate 74 0".to_string()),
-        ("refused-line-is", "printed refusedFile refusedSheet ≡ refusedLine".to_string()),
+        ("stays", "left refused_file refused_sheet ≡ replicate 74 0".to_string()),
+        ("refused_line_is", "printed refused_file refused_sheet ≡ refused_line".to_string()),
     ] {
         println!("  pub {what} : {definition}");
     }

@@ -10,32 +10,29 @@ use vana::workout::player::Summary;
 
 const HEAD: &str = "\
 -- Some rides with their bytes by document 02's g, of which the Rust's `decode` shows every field that it knows at the right value; and
--- some bytes with what its `decode` reads of them and what g reads as unread. `read-9` is what the Rust's `encode` wrote itself, version 1.
+-- some bytes with what its `decode` reads of them and what g reads as unread. `read_9` is what the Rust's `encode` wrote itself, version 1.
 -- Written by tests/oracle/record_samples.rs, compared by tests/oracle/run. The definitions are held against these, since the Rust is
 -- outside the proof.
-use mathlib.Core.Path.{_≡_}
-use mathlib.Core.Bool.{Bool, true, false}
-use mathlib.Core.List.{List, [], _∷_, _++_}
-use Prim.Native.Nat.{ℕ}
-use Rattle·cursor.specs.Names.{nameOf}
-use Rattle·model.specs.declared.Test.the-variants as tests
-use Rattle·power.specs.declared.ReadingOption.{ReadingOption}
-use Rattle·power.specs.declared.ReadingOption.the-variants as ftp
-use Rattle·state.specs.declared.Summary.{Summary}
-use Rattle·history·specs.specs.Record.{recordOf, recordBytes}
-use Rattle·history·specs.specs.Decode.{noRecord, readAs, decodeOf}
+use Rattle.std.specs.Prelude.{◌≡◌, Bool, true, false, [], ◌∷◌, ◌++◌, ℕ}
+use Rattle.cursor.specs.Names.{name_of}
+use Rattle.model.specs.declared.Test.TheVariants as tests
+use Rattle.power.specs.declared.ReadingOption.{ReadingOption}
+use Rattle.power.specs.declared.ReadingOption.TheVariants as ftp
+use Rattle.state.specs.declared.Summary.{Summary}
+use Rattle.history.specs.Record.{record_of, record_bytes}
+use Rattle.history.specs.Decode.{no_record, read_as, decode_of}
 
 -- steps done, steps, skipped; targeted, in, under, over, unread; finished; FTP
-abbrev pub summaryOf : ℕ → ℕ → ℕ → ℕ → ℕ → ℕ → ℕ → ℕ → Bool → ReadingOption → Summary
-summaryOf done steps skipped targeted inside under over unread finished measured =
+abbrev pub summary_of : ℕ → ℕ → ℕ → ℕ → ℕ → ℕ → ℕ → ℕ → Bool → ReadingOption → Summary
+summary_of done steps skipped targeted inside under over unread finished measured =
     record {
-      «targeted_ms» = targeted;
-      «in_ms» = inside;
-      «under_ms» = under;
-      «over_ms» = over;
-      «unread_ms» = unread;
+      targeted_ms = targeted;
+      in_ms = inside;
+      under_ms = under;
+      over_ms = over;
+      unread_ms = unread;
       ftp = measured;
-      «steps_done» = done;
+      steps_done = done;
       steps = steps;
       skipped = skipped;
       finished = finished;
@@ -54,7 +51,7 @@ fn rows(bytes: &[u8]) -> String {
     rows.join("\n      ++ (") + &")".repeat(rows.len() - 1)
 }
 
-/// A record as `recordOf` makes it.
+/// A record as `record_of` makes it.
 fn made(name: &[u8], test: Option<Test>, s: &Summary, unread: u64, ride: (u8, u32, u64, bool)) -> String {
     let test = match test {
         None => "tests.None",
@@ -64,7 +61,7 @@ fn made(name: &[u8], test: Option<Test>, s: &Summary, unread: u64, ride: (u8, u3
     let ftp = s.ftp.map_or("ftp.None".to_string(), |watts| format!("(ftp.Some {watts})"));
     let (journal, id, start, dated) = ride;
     format!(
-        "(recordOf (nameOf ({})) {test}\n      (summaryOf {} {} {} {} {} {} {} {unread} {} {ftp}) {journal} {id} {start} {dated})",
+        "(record_of (name_of ({})) {test}\n      (summary_of {} {} {} {} {} {} {} {unread} {} {ftp}) {journal} {id} {start} {dated})",
         list(name),
         s.steps_done,
         s.steps,
@@ -78,10 +75,10 @@ fn made(name: &[u8], test: Option<Test>, s: &Summary, unread: u64, ride: (u8, u3
 }
 
 fn read(bytes: &[u8]) -> String {
-    decode(bytes).map_or("noRecord".to_string(), |record| {
+    decode(bytes).map_or("no_record".to_string(), |record| {
         let start = record.started_utc_ms;
         let ride = (record.journal, record.ride_id, start.unwrap_or(0), start.is_some());
-        format!("readAs\n      {}", made(record.name.as_bytes(), record.test, &record.summary, unread_in(bytes), ride))
+        format!("read_as\n      {}", made(record.name.as_bytes(), record.test, &record.summary, unread_in(bytes), ride))
     })
 }
 
@@ -92,9 +89,9 @@ fn main() {
         let record = made(sample.name.as_bytes(), sample.test, &sample.summary, sample.unread, ride);
         let bytes = sample.bytes();
         assert_eq!(decode(&bytes), Some(shown(&sample.record())), "the Rust shows another value of sample {i}");
-        println!("  pub written-{i} : recordBytes\n      {record}\n      ≡ {}", rows(&bytes));
+        println!("  pub written_{i} : record_bytes\n      {record}\n      ≡ {}", rows(&bytes));
     }
     for (i, bytes) in read_samples().iter().enumerate() {
-        println!("  pub read-{i} : decodeOf\n      ({})\n      ≡ {}", rows(bytes), read(bytes));
+        println!("  pub read_{i} : decode_of\n      ({})\n      ≡ {}", rows(bytes), read(bytes));
     }
 }
