@@ -332,11 +332,14 @@ fn refused(log: &str, krate: &Crate, function: &Function, alone: bool) -> bool {
         || (alone && !verdict.contains("it calls") && !found.is_empty())
 }
 
-// A copy of what is checked, with what the checkout keeps of earlier checks by links; a check replaces these and changes none.
+// A copy of what is checked, by links, with the libraries that the checkout has: a check replaces such a file and changes none.
 fn copy_crates(tree: &Path) {
-    let _ = fs::remove_dir_all(tree);
-    fs::create_dir_all(tree).unwrap();
-    let copied = Command::new("cp").args(["-al", "crates", "crates.txt"]).arg(tree).status();
+    let script = r#"mkdir -p "$0/crates" && cp crates.txt "$0" && for crate in crates/*/; do
+        mkdir -p "$0/$crate/out" || exit 1
+        for part in src specs proofs; do [ ! -d $crate$part ] || cp -al $crate$part "$0/$crate" || exit 1; done
+        [ ! -d ${crate}out/rlib ] || cp -al ${crate}out/rlib "$0/${crate}out" || exit 1
+    done"#;
+    let copied = Command::new("sh").arg("-c").arg(script).arg(tree).status();
     assert!(copied.is_ok_and(|status| status.success()), "the crates can't be copied");
 }
 
@@ -389,7 +392,7 @@ fn try_all(folders: &[PathBuf]) {
         for worker in 0..workers {
             let left = &left;
             scope.spawn(move || {
-                let tree = PathBuf::from(format!("target/edits/tree{worker}"));
+                let tree = PathBuf::from(format!("target/edits/{}-{worker}", std::process::id()));
                 copy_crates(&tree);
                 loop {
                     let next = left.lock().unwrap().pop();

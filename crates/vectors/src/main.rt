@@ -2,12 +2,12 @@
 // writes for each question how many answers were compared and how many differ.
 #![tactic(auto)]
 
-ghost use Rattle.std.specs.Prelude.{◌≡◌, length, ◌+◌, ◌*◌, ◌≤◌, IfOk};
+ghost use Rattle.std.specs.Prelude.{◌≡◌, length, ◌+◌, ◌*◌, ◌≤◌};
 ghost use Rattle.io.specs.Counts.{IsPrefixLen};
 ghost use Rattle.vectors.specs.Replays.{entry_at, Within, agrees, more, compared, step_of, replay_of};
 
 use std::fs;
-use std::io::{self, Read};
+use std::io::Read;
 use std::rt::Files;
 
 // What stands at a place of the list: a question, where its input ends, and how many words the answer after it has.
@@ -148,15 +148,15 @@ fn replay_all(question: u32, list: &[u8]) -> Replay
     s
 }
 
-// Where the line can't be printed, that is the error.
-fn report(rt: &impl Print, question: u32, name: &str, list: &[u8]) -> io::Result<Replay>
-    ensures { IfOk result (λ found. found ≡ replay_of question list.now) }
+// A line that can't be printed is passed over.
+fn report(rt: &impl Print, question: u32, name: &str, list: &[u8]) -> Replay
+    ensures { result ≡ replay_of question list.now }
 {
     let found = replay_all(question, list);
     let compared = found.compared;
     let different = found.different;
-    println!(rt; "{name}: {compared} compared, {different} different")?;
-    Ok(found)
+    let _ = println!(rt; "{name}: {compared} compared, {different} different");
+    found
 }
 
 // Reads until all places are full or the file ends, or can't be read on.
@@ -190,26 +190,25 @@ fn read_list<R: Files + Eprint>(rt: &R, path: &str, bytes: &mut [u8; 524288]) ->
     }
 }
 
-fn main(rt: HostRuntime) -> io::Result<()> {
+fn main(rt: HostRuntime) {
     let mut bytes = [0u8; 524288];
     let answers = read_list(&rt, "answers", &mut bytes);
     let list = &bytes[..answers];
-    report(&rt, 0, "percent", list)?;
-    report(&rt, 1, "power_zone", list)?;
-    report(&rt, 2, "heart_zone", list)?;
-    report(&rt, 3, "power_range", list)?;
-    report(&rt, 4, "heart_range", list)?;
-    report(&rt, 5, "band", list)?;
-    report(&rt, 6, "ramp", list)?;
-    report(&rt, 7, "stage", list)?;
-    report(&rt, 8, "name", list)?;
-    report(&rt, 9, "validate", list)?;
-    report(&rt, 10, "order", list)?;
-    report(&rt, 11, "file", list)?;
-    report(&rt, 12, "written", list)?;
+    report(&rt, 0, "percent", list);
+    report(&rt, 1, "power_zone", list);
+    report(&rt, 2, "heart_zone", list);
+    report(&rt, 3, "power_range", list);
+    report(&rt, 4, "heart_range", list);
+    report(&rt, 5, "band", list);
+    report(&rt, 6, "ramp", list);
+    report(&rt, 7, "stage", list);
+    report(&rt, 8, "name", list);
+    report(&rt, 9, "validate", list);
+    report(&rt, 10, "order", list);
+    report(&rt, 11, "file", list);
+    report(&rt, 12, "written", list);
     let players = read_list(&rt, "players", &mut bytes);
-    report(&rt, 13, "player", &bytes[..players])?;
+    report(&rt, 13, "player", &bytes[..players]);
     let replays = read_list(&rt, "replays", &mut bytes);
-    report(&rt, 14, "replay", &bytes[..replays])?;
-    Ok(())
+    report(&rt, 14, "replay", &bytes[..replays]);
 }
