@@ -4,12 +4,13 @@
 //     edit: LABEL in FUNCTION
 // and has its pairs of old and new text below it. FUNCTION, Type/method of a method, is the one whose proof must fail on it; there may
 // be several. A definition that only crates above use has the file of its law there, as Laws.antt.
-// `rt ci` tries all edits of a file in one check of the crate, asks only that something is refused, and keeps no log. So the functions that
-// a file names are checked here with its edits made, in a copy of the crates, as many side by side as there are processors, and what the
-// prover says is left as target/must-fail/CRATE/NAME/.log. It is asked of each edit:
+// `rt ci` tries all edits of a file in one check of the crate, and tells the first error that isn't one of names. Where RT_CI_LOG names
+// what it said, that is taken for a file with one edit of one function, if the error is one of that function's proof or of a law. In all
+// other files, and in all of them without that log, the functions named are checked here with the edits made, in a copy of the crates, as
+// many side by side as there are processors, and what the prover says is left as target/must-fail/CRATE/NAME/.log. It is asked of each edit:
 //   - Its function is refused for an error of its own proof, or, where the file has no other edit, of a law that the proof rests on.
-//   - No error is one of names or syntax, and none says that something else is to be proved of a function than its proof has, or that
-//     its facts stand elsewhere: a right program of another form would be refused for that too.
+//   - No error is one of names or syntax: a right program of another form would be refused for that too. A goal has its name from the
+//     code, so where an edit changes that text an answer may miss its goal; then a goal of the code must be left unproved besides.
 //   - No other edit of the file bears on its function (`bears_on`), so that it is refused for its own text.
 //   - Each public function has two edits or more.
 use std::collections::{BTreeMap, BTreeSet};
@@ -78,6 +79,18 @@ fn uncommented(text: &str, mark: &str) -> String {
         None => line.to_string(),
     };
     text.split('\n').map(blank).collect::<Vec<_>>().join("\n")
+}
+
+// The text of a proof without paths such as c.in-Some.is, whose words are the prover's own.
+fn without_paths(text: &str) -> String {
+    let mut pieces = text.split("c.");
+    let mut rest = pieces.next().unwrap_or("").to_string();
+    for piece in pieces {
+        let whole = rest.chars().last().is_none_or(|c| !is_word(c) && c != '.');
+        rest += if whole { piece.trim_start_matches(|c| is_word(c) || c == '.') } else { piece };
+        rest.push(' ');
+    }
+    rest
 }
 
 fn closing(text: &[u8], open: usize) -> usize {
@@ -216,7 +229,7 @@ impl Crate {
         for function in sources.values_mut().flat_map(|source| &mut source.functions) {
             for file in ["Invariants.antt", "Answers.antt"] {
                 let proof = fs::read_to_string(folder.join("proofs").join(&function.name).join(file)).unwrap_or_default();
-                function.in_proof.extend(words(&uncommented(&proof, "--")));
+                function.in_proof.extend(words(&without_paths(&uncommented(&proof, "--"))));
             }
         }
         Crate { name: folder.file_name().unwrap().to_string_lossy().to_string(), sources }
@@ -263,7 +276,13 @@ impl Crate {
             };
             let names = self.users(changed.names.clone());
             let called = self.functions().any(|other| calls(other) && meet(&other.in_head, &names));
-            called || [&function.in_head, &function.in_body, &function.in_proof].iter().any(|words| meet(words, &names))
+            // code names what stands in src/ alone
+            let in_src = |name: &&String| {
+                let sources = self.sources.iter().filter(|(file, _)| file.starts_with("src/"));
+                sources.flat_map(|(_, source)| &source.definitions).any(|definition| definition.names.contains(*name))
+            };
+            let of_src: Names = names.iter().filter(in_src).cloned().collect();
+            called || meet(&function.in_body, &of_src) || meet(&function.in_head, &names) || meet(&function.in_proof, &names)
         })
     }
 }
@@ -307,6 +326,18 @@ fn errors(log: &str) -> Vec<(&str, &str)> {
         .collect()
 }
 
+// Whether the log says of a goal in the function's code that it isn't proved.
+fn fact_of(log: &str, function: &Function) -> bool {
+    log.lines().any(|line| {
+        let Some((_, after)) = line.strip_prefix("note: ").unwrap_or(line).split_once(".rt:") else {
+            return false;
+        };
+        let number: usize = after.split(':').next().unwrap().parse().unwrap_or(0);
+        let told = after.contains("it is not proved") || after.contains(": error: ");
+        told && function.lines.0 <= number && number <= function.lines.1
+    })
+}
+
 // Whether the log refuses the function by an error of its own.
 fn refused(log: &str, krate: &Crate, function: &Function, alone: bool) -> bool {
     let said = format!("fn {}::{}: ", krate.name, function.name.replace('/', "::"));
@@ -318,17 +349,9 @@ fn refused(log: &str, krate: &Crate, function: &Function, alone: bool) -> bool {
         return false;
     }
     let own = format!("/proofs/{}/", function.name);
-    let in_source = |line: &str| {
-        let Some((_, after)) = line.strip_prefix("note: ").unwrap_or(line).split_once(".rt:") else {
-            return false;
-        };
-        let number: usize = after.split(':').next().unwrap().parse().unwrap_or(0);
-        let told = after.contains("it is not proved") || after.contains(": error: ");
-        told && function.lines.0 <= number && number <= function.lines.1
-    };
     let found = errors(log);
     found.iter().any(|(place, _)| place.contains(&own))
-        || log.lines().any(in_source)
+        || fact_of(log, function)
         || (alone && !verdict.contains("it calls") && !found.is_empty())
 }
 
@@ -379,12 +402,33 @@ fn try_file(tree: &Path, krate: &str, path: &Path) {
     fs::write(log.join(".log"), [said.stdout, said.stderr].concat()).unwrap();
 }
 
-// Tries the files of edits of the crates that are named, of all where none is.
-fn try_all(folders: &[PathBuf]) {
+// Whether what `rt ci` said of a file refuses its one edit for a fact of the function that it names, or for a law.
+fn told(said: &str, krate: &Crate, path: &Path) -> bool {
+    let edits = read_edits(path);
+    let [edit] = edits.as_slice() else { return false };
+    let [wanted] = edit.functions.as_slice() else { return false };
+    let head = format!("rt: must-fail {}/{}: refused, as it must be: ", krate.name, path.file_name().unwrap().to_string_lossy());
+    let Some(first) = said.lines().find_map(|line| line.strip_prefix(head.as_str())) else { return false };
+    let first = first.trim_start_matches("note: ").trim_start_matches("so far: note: ").trim_start_matches("./");
+    let mut place = first.split(':');
+    let (file, line) = (place.next().unwrap_or(""), place.next().unwrap_or("").parse().unwrap_or(0));
+    match file.strip_prefix("proofs/") {
+        Some(law) if !law.contains('/') => true,
+        Some(own) => own.starts_with(&format!("{wanted}/")),
+        None => krate.functions().any(|function| {
+            file.starts_with("src/") && function.name == *wanted && function.lines.0 <= line && line <= function.lines.1
+        }),
+    }
+}
+
+// Tries the files of edits of these crates, but for those that `rt ci` told enough of.
+fn try_all(folders: &[PathBuf], said: &str) {
     let mut left: Vec<(String, PathBuf)> = Vec::new();
     for folder in folders {
         let krate = folder.file_name().unwrap().to_string_lossy().to_string();
-        left.extend(files_below(&folder.join("must-fail"), ".edit").into_iter().map(|path| (krate.clone(), path)));
+        let read = Crate::read(folder);
+        let files = files_below(&folder.join("must-fail"), ".edit").into_iter().filter(|path| !told(said, &read, path));
+        left.extend(files.map(|path| (krate.clone(), path)));
     }
     let left = Mutex::new(left);
     let workers = std::thread::available_parallelism().map_or(2, |n| n.get());
@@ -419,20 +463,30 @@ fn main() {
         .collect();
     folders.sort();
     folders.retain(|folder| named.is_empty() || named.iter().any(|name| folder.ends_with(name)));
-    try_all(&folders);
+    let said = std::env::var("RT_CI_LOG").ok().and_then(|log| fs::read_to_string(log).ok()).unwrap_or_default();
+    try_all(&folders, &said);
+    let mut by_log = 0;
     for folder in folders {
         let krate = Crate::read(&folder);
         let (mut labels, mut counts): (Names, BTreeMap<String, usize>) = (Names::new(), BTreeMap::new());
         for path in files_below(&folder.join("must-fail"), ".edit") {
             let file = path.file_stem().unwrap().to_string_lossy().to_string();
             files += 1;
-            let Ok(log) = fs::read_to_string(format!("target/must-fail/{}/{file}/.log", krate.name)) else {
-                fault(format!("{}/{file} wasn't tried", krate.name));
-                continue;
-            };
             let edits = read_edits(&path);
+            let known = told(&said, &krate, &path);
+            by_log += known as usize;
+            let log = match fs::read_to_string(format!("target/must-fail/{}/{file}/.log", krate.name)) {
+                Ok(log) if !known => log,
+                _ if known => String::new(),
+                _ => {
+                    fault(format!("{}/{file} wasn't tried", krate.name));
+                    continue;
+                }
+            };
             for (place, message) in errors(&log) {
-                if OF_SHAPE.iter().any(|phrase| message.contains(phrase)) {
+                let owner = krate.functions().find(|function| place.contains(&format!("/proofs/{}/", function.name)));
+                let also = owner.is_some_and(|function| fact_of(&log, function));
+                if OF_SHAPE.iter().any(|phrase| message.contains(phrase)) && !also {
                     fault(format!("{}/{file}: refused for its shape: {place}: {message}", krate.name));
                 }
             }
@@ -463,7 +517,7 @@ fn main() {
                     {
                         fault(format!("{name}: {} of the same file bears on {wanted} too", other.label));
                     }
-                    if !refused(&log, &krate, function, edits.len() == 1) {
+                    if !known && !refused(&log, &krate, function, edits.len() == 1) {
                         fault(format!(
                             "{name}: {wanted} isn't refused for a fact of its own (target/must-fail/{}/{file}/.log)",
                             krate.name
@@ -479,6 +533,6 @@ fn main() {
             }
         }
     }
-    println!("edits: {tried} in {files} files, {faults} faults");
+    println!("edits: {tried} in {files} files, {by_log} of these by what rt ci said, {faults} faults");
     std::process::exit(if faults == 0 && (tried > 300 || !named.is_empty()) { 0 } else { 1 });
 }
