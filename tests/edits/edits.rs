@@ -10,7 +10,7 @@
 // many side by side as there are processors, and what the prover says is left as target/must-fail/CRATE/NAME/.log. It is asked of each edit:
 //   - Its function is refused for an error of its own proof, or, where the file has no other edit, of a law that the proof rests on.
 //   - No error is one of names or syntax: a right program of another form would be refused for that too. A goal has its name from the
-//     code, so where an edit changes that text an answer may miss its goal; then a goal of the code must be left unproved besides.
+//     code, so where an edit changes that text an answer may miss its goal; then another of the function must be refused for a fact.
 //   - No other edit of the file bears on its function (`bears_on`), so that it is refused for its own text.
 //   - Each public function has two edits or more.
 use std::collections::{BTreeMap, BTreeSet};
@@ -485,8 +485,12 @@ fn main() {
             };
             for (place, message) in errors(&log) {
                 let owner = krate.functions().find(|function| place.contains(&format!("/proofs/{}/", function.name)));
-                let also = owner.is_some_and(|function| fact_of(&log, function));
-                if OF_SHAPE.iter().any(|phrase| message.contains(phrase)) && !also {
+                let of_shape = |message: &str| OF_SHAPE.iter().any(|phrase| message.contains(phrase));
+                let also = owner.is_some_and(|function| {
+                    let own = format!("/proofs/{}/", function.name);
+                    fact_of(&log, function) || errors(&log).iter().any(|(at, said)| at.contains(&own) && !of_shape(said))
+                });
+                if of_shape(message) && !also {
                     fault(format!("{}/{file}: refused for its shape: {place}: {message}", krate.name));
                 }
             }
@@ -499,7 +503,7 @@ fn main() {
                 for wanted in &edit.functions {
                     if wanted.ends_with(".antt") {
                         let place = format!("/proofs/{wanted}:");
-                        if edits.len() > 1 || !errors(&log).iter().any(|(at, _)| at.contains(&place)) {
+                        if !known && (edits.len() > 1 || !errors(&log).iter().any(|(at, _)| at.contains(&place))) {
                             fault(format!("{name}: nothing in {wanted} is refused for it alone"));
                         }
                         continue;
