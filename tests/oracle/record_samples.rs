@@ -13,17 +13,15 @@ const HEAD: &str = "\
 -- some bytes with what its `decode` reads of them and what g reads as unread. `read_9` is what the Rust's `encode` wrote itself, version 1.
 -- Written by tests/oracle/record_samples.rs, compared by tests/oracle/run. The definitions are held against these, since the Rust is
 -- outside the proof.
-use Rattle.std.specs.Prelude.{◌≡◌, Bool, true, false, [], ◌∷◌, ◌++◌, ℕ}
+use Rattle.std.specs.Prelude.{◌≡◌, Bool, true, false, [], ◌∷◌, ◌++◌, ℕ, None, Option, Some}
 use Rattle.cursor.specs.Names.{name_of}
 use Rattle.model.specs.declared.Test.TheVariants as tests
-use Rattle.power.specs.declared.ReadingOption.{ReadingOption}
-use Rattle.power.specs.declared.ReadingOption.TheVariants as ftp
 use Rattle.state.specs.declared.Summary.{Summary}
 use Rattle.history.specs.Record.{record_of, record_bytes}
 use Rattle.history.specs.Decode.{no_record, read_as, decode_of}
 
 -- steps done, steps, skipped; targeted, in, under, over, unread; finished; FTP
-abbrev pub summary_of : ℕ → ℕ → ℕ → ℕ → ℕ → ℕ → ℕ → ℕ → Bool → ReadingOption → Summary
+abbrev pub summary_of : ℕ → ℕ → ℕ → ℕ → ℕ → ℕ → ℕ → ℕ → Bool → Option ℕ → Summary
 summary_of done steps skipped targeted inside under over unread finished measured =
     record {
       targeted_ms = targeted;
@@ -58,7 +56,7 @@ fn made(name: &[u8], test: Option<Test>, s: &Summary, unread: u64, ride: (u8, u3
         Some(Test::Twenty) => "tests.Twenty",
         Some(Test::Ramp) => "tests.Ramp",
     };
-    let ftp = s.ftp.map_or("ftp.None".to_string(), |watts| format!("(ftp.Some {watts})"));
+    let ftp = s.ftp.map_or("None".to_string(), |watts| format!("(Some {watts})"));
     let (journal, id, start, dated) = ride;
     format!(
         "(record_of (name_of ({})) {test}\n      (summary_of {} {} {} {} {} {} {} {unread} {} {ftp}) {journal} {id} {start} {dated})",

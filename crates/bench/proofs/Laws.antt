@@ -1,11 +1,11 @@
 -- Rides one after the other; grants one after the other.
+use Rattle.std.specs.Prelude.{Err, Ok}
 use mathlib.Core.Path.{◌≡◌, refl, sym, ap, ◌∙◌}
 use Prim.Native.Nat.{ℕ, zero, suc, ◌+◌, ◌-◌, ◌≤◌, ◌<◌}
 use native.Mathlib.Omega.{arith}
 use mathlib.Core.Bool.{true, false}
 use mathlib.Core.List.{List}
 use native.Mathlib.Numerals.{add-one}
-use Rattle.refusal.specs.declared.Answer.TheVariants.{Accepted, Refused}
 use Rattle.refusal.specs.declared.Refusal.{Refusal}
 use Rattle.state.specs.declared.Player.{Player}
 use Rattle.standing.specs.Standing.{standing_of}
@@ -44,11 +44,11 @@ module _ (p : Player) where
   rides-refused e (suc n) = ap (rides_of n) (not-ridden e) ∙ rides-refused e n
 
   module _ (e : standing_of p ≡ true) where
-    pub refused-ride : (r : Refusal) → update_answer p.core 250 2000 193 193 ≡ Refused r → p ≡ ridden_of p
+    pub refused-ride : (r : Refusal) → update_answer p.core 250 2000 193 193 ≡ Err r → p ≡ ridden_of p
     unfolding ridden_of
     refused-ride r u = ap (λ (o : Called). o.player) (ride-refused p 250 2000 profile 193 193 r e refl u)
 
-    pub taken-ride : update_answer p.core 250 2000 193 193 ≡ Accepted → (ride_now p 250 2000 profile).player ≡ ridden_of p
+    pub taken-ride : update_answer p.core 250 2000 193 193 ≡ Ok tt → (ride_now p 250 2000 profile).player ≡ ridden_of p
     unfolding ridden_of
     taken-ride u = ap (λ (o : Called). o.player) (ride-taken p 250 2000 profile 193 193 e refl u)
 

@@ -1,8 +1,7 @@
 -- What the benchmark of the player rides.
-use Rattle.std.specs.Prelude.{List, ℕ, zero, suc}
+use Rattle.std.specs.Prelude.{List, ℕ, zero, suc, None, Some}
 use Rattle.zones.specs.declared.TrainingProfile.{TrainingProfile}
 use Rattle.decode.specs.Decode.{decode_of}
-use Rattle.power.specs.declared.ReadingOption.TheVariants.{None, Some}
 use Rattle.readings.specs.declared.Sample.{Sample}
 use Rattle.state.specs.declared.Player.{Player}
 use Rattle.start.specs.Start.{new_of}

@@ -17,9 +17,7 @@ ghost use Rattle.bench.specs.Grants.{asked_bikes, asked_watts, watts_total};
 
 use frame::{Bike, grant};
 use player::{ride, update_answer};
-use power::ReadingOption;
 use readings::Sample;
-use refusal::Answer;
 use standing::is_standing;
 use state::{Mm, Ms, Player};
 use updates::ride_now;
@@ -72,9 +70,9 @@ fn begun(file: &[u8]) -> Player
     let made = start::new(decoded.workout);
     let fresh = made.player;
     let sample = Sample {
-        power_watts: ReadingOption::Some(150),
-        heart_bpm: ReadingOption::None,
-        cadence_tenths: ReadingOption::None,
+        power_watts: Some(150),
+        heart_bpm: None,
+        cadence_tenths: None,
     };
     let update = player::read(fresh, sample);
     update.player
@@ -104,7 +102,7 @@ fn known_ride(player: Player) -> Player
     let sample = readings.last_sample;
     let reading = sample.power_watts;
     // That the reading has 16 bits is part of what the next player stands on.
-    reading.or_zero();
+    reading.unwrap_or(0);
     let mut kinds: [u8; 193] = [0; 193];
     let mut values: [u16; 193] = [0; 193];
     let profile = TrainingProfile {
@@ -112,11 +110,11 @@ fn known_ride(player: Player) -> Player
         lthr_bpm: 160,
     };
     match update_answer(core, Ms(250), Mm(2000), 193, 193) {
-        Answer::Accepted => {
+        Ok(()) => {
             let update = ride_now(player, Ms(250), Mm(2000), profile, &mut kinds, &mut values);
             update.player
         }
-        Answer::Refused(_) => player,
+        Err(_) => player,
     }
 }
 
@@ -126,10 +124,8 @@ pub extern "C" fn asked_rides(file: &[u8], n: u32) -> u64
     ensures { result ≡ (rides_of n (begun_of file.now)).core.total_ms.0 }
 {
     let mut player = begun(file);
-    let mut i = 0;
-    while i < n {
+    for _ in 0..n {
         player = asked_ride(player);
-        i += 1;
     }
     player.core.total_ms.0
 }
@@ -143,10 +139,8 @@ pub extern "C" fn known_rides(file: &[u8], n: u32) -> u64
     if !is_standing(player) {
         return player.core.total_ms.0;
     }
-    let mut i = 0;
-    while i < n {
+    for _ in 0..n {
         player = known_ride(player);
-        i += 1;
     }
     player.core.total_ms.0
 }
@@ -202,10 +196,8 @@ pub extern "C" fn asked_grants(file: &[u8], n: u32) -> u64
 {
     let bikes = asked_bikes(begun(file));
     let mut total: u64 = 0;
-    let mut i: u32 = 0;
-    while i < n {
+    for i in 0..n {
         total += asked_grant(bikes, i) as u64;
-        i += 1;
     }
     total
 }

@@ -44,7 +44,7 @@ use Rattle.bench_ride.specs.BenchRide.{BenchRide}
 use Rattle.bench_ride.specs.Extends.{ExtendedRides}
 
 pub rides : BenchRide × ExtendedRides
-unfolding flat_map all all_at called sum range question_number number_of bytes_of add remainder quotient product digits bits frame_check number checksum-v42.check_of size_ok act_in acts_from sample_ok act_ok fault_from sheet-sheet.check_of name_from name_ok percent_of profile_answer capped ramp_option band_of empty_workout all_apart blocks_sound repeats run runs order nth played_of played_len order-order.block_at order-order.step_at test_of read_counts read_head read_block read_body contents_of decode-decode.block_at decode-decode.decode_of intensity_of length_of target_of fixed_of read_step steps-steps.step_at is_no_step step_slots block_slots form_ok step_ok valid_answer workout_answer read_text read_name and_then read_many take_bytes read_byte flags_of text_bytes tally_bytes record_bytes history-record.head_bytes history-record.body_bytes window mean_by average average_of added taken reading_of judged compliance_of tallied share_of until_end read_core measured_of result_of countdowns_to is_over arrived next_of same_length same_target same_step same_bytes same_name on_place core_ok standing_of advanced closed round_of rounds fresh new_of ride_now update_answer ride_answer ride_of read_answer read_of extend_core extend_by extend_with act_called play_acts play_sheet ridden_of replay_answer replay_output decimal_in decimal_of summary_text refusal_text line_of
+unfolding flat_map all all_at called sum range question_number number_of bytes_of add remainder quotient product digits bits frame_check number checksum-v42.check_of size_ok act_in acts_from sample_ok act_ok fault_from sheet-sheet.check_of name_from name_ok percent_of profile_answer capped ramp_option band_of empty_workout all_apart blocks_sound repeats run runs order nth played_of played_len order-order.block_at order-order.step_at test_of read_counts read_head read_block read_body contents_of decode-decode.block_at decode-decode.file_of decode-decode.decode_of intensity_of length_of target_of fixed_of read_step steps-steps.step_at is_no_step step_slots block_slots form_ok step_ok valid_answer workout_answer read_text read_name and_then read_many take_bytes read_byte flags_of text_bytes tally_bytes record_bytes history-record.head_bytes history-record.body_bytes window mean_by average average_of added taken reading_of judged compliance_of tallied share_of until_end read_core measured_of result_of countdowns_to is_over arrived next_of same_length same_target same_step same_bytes same_name on_place core_ok standing_of advanced closed round_of rounds fresh new_of ride_now update_answer ride_answer ride_of read_answer read_of extend_core extend_by extend_with act_called play_acts play_sheet ridden_of replay_answer replay_output decimal_in decimal_of summary_text refusal_text line_of
 rides = (
   record { accepted = refl; record_is = refl; line_is = refl; refused = refl; stays = refl; refused_line_is = refl },
   record { kind_4 = (refl, refl); kind_5 = (refl, refl); with_value = refl; kind_6 = refl },

@@ -1,5 +1,5 @@
 -- Document 01, 'Bench sheet': the lines marked P.
-use Rattle.std.specs.Prelude.{◌≡◌, List, [], ◌∷◌, map, ℕ, length, replicate}
+use Rattle.std.specs.Prelude.{◌≡◌, List, [], ◌∷◌, map, ℕ, length, replicate, None, Option, Some}
 use Rattle.common.specs.Lists.{padded}
 use Rattle.refusal.specs.Number.{answer_number}
 use Rattle.names.specs.Names.{empty_name}
@@ -13,7 +13,6 @@ use Rattle.model.specs.declared.Test.{Test}
 use Rattle.model.specs.declared.Step.{Step}
 use Rattle.model.specs.declared.Block.{Block}
 use Rattle.model.specs.declared.Workout.{Workout}
-use Rattle.model.specs.declared.BandOption.TheVariants as bands
 use Rattle.model.specs.declared.Metric.TheVariants as metrics
 use Rattle.model.specs.declared.Target.TheVariants as targets
 use Rattle.model.specs.declared.Test.TheVariants as tests
@@ -22,8 +21,6 @@ use Rattle.model.specs.Workout.{no_step, no_block}
 use Rattle.order.specs.Order.{order_of, played_len}
 use Rattle.validation.specs.Sound.{workout_answer}
 use Rattle.decode.specs.Decode.{decode_of}
-use Rattle.power.specs.declared.ReadingOption.{ReadingOption}
-use Rattle.power.specs.declared.ReadingOption.TheVariants.{None, Some}
 use Rattle.readings.specs.declared.Sample.{Sample}
 use Rattle.power.specs.Power.{added, average_of}
 use Rattle.readings.specs.Readings.{no_readings}
@@ -75,7 +72,7 @@ abbrev pub ridden : Player → ℕ → Called
 ridden p ms = ride_of p ms 0 (profile 200 160) 193 193
 
 -- what a 1,200 s test gives at so many watts
-abbrev pub tested : ℕ → ReadingOption
+abbrev pub tested : ℕ → Option ℕ
 tested w =
     (ridden (read_of (new_of (in_order tests.Twenty (step intensities.Test (Time 1200) ∷ []))).player (watts w)).player 1200000
     ).player.core.summary.ftp
@@ -94,10 +91,10 @@ pub record BenchSheet : Type 0 where
   pub by_8 : (played_len (repeated 12 (block 0 12 8)) ≡ 96) × (answer_number (workout_answer (repeated 12 (block 0 12 8))) ≡ 0)
   pub by_9 : answer_number (workout_answer (repeated 12 (block 0 12 9))) ≡ 9
   -- "FTP 250, 90 to 95%: 225 to 238."
-  pub ftp : band_of (targets.Ftp 90 95) (profile 250 160) 0 ≡ bands.Some (band metrics.Power 225 238)
+  pub ftp : band_of (targets.Ftp 90 95) (profile 250 160) 0 ≡ Some (band metrics.Power 225 238)
   -- "LTHR 160: 129 is zone 1, 130 zone 2." and of the helpers' line: "at LTHR 160 zone 1 shows 104 to 129"
   pub heart : (heart_zone (profile 250 160) 129 ≡ 1) × (heart_zone (profile 250 160) 130 ≡ 2)
-  pub zone_1 : band_of (targets.HeartZone 1) (profile 250 160) 0 ≡ bands.Some (band metrics.Heart 104 129)
+  pub zone_1 : band_of (targets.HeartZone 1) (profile 250 160) 0 ≡ Some (band metrics.Heart 104 129)
   -- "Readings 100, 101: 101."
   pub readings : average_of (added (Some 101) (added (Some 100) no_readings.power)) ≡ Some 101
   -- "1,200 s test at 53 W: 50; 52: none; 632: 600; 633: none."

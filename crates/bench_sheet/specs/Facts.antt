@@ -1,8 +1,7 @@
 -- Examples of document 01's sentences beside its bench sheet, of the Rust where the paper says 'as there', and of document 02's requests:
 -- averages, bands, parts, countdowns, seconds left, ramps, extends, tests. The definitions are held against these: one made wrong together with
 -- the code is refused here.
-use Rattle.std.specs.Prelude.{◌≡◌, true, false, [], ◌∷◌, ℕ}
-use Rattle.refusal.specs.declared.Answer.TheVariants.{Accepted, Refused}
+use Rattle.std.specs.Prelude.{◌≡◌, true, false, [], ◌∷◌, ℕ, Err, None, Ok, Option, Some}
 use Rattle.refusal.specs.declared.Refusal.TheVariants as refusals
 use Rattle.names.specs.Names.{empty_name}
 use Rattle.zones.specs.Zones.{heart_zone}
@@ -13,12 +12,10 @@ use Rattle.model.specs.declared.Target.TheVariants as targets
 use Rattle.model.specs.declared.Test.{Test}
 use Rattle.model.specs.declared.Test.TheVariants as tests
 use Rattle.model.specs.declared.Step.{Step}
-use Rattle.model.specs.declared.BandOption.{BandOption}
-use Rattle.model.specs.declared.BandOption.TheVariants as bands
 use Rattle.model.specs.declared.Metric.TheVariants as metrics
+use Rattle.model.specs.declared.Band.{Band}
 use Rattle.model.specs.Target.{band, band_of}
 use Rattle.power.specs.declared.Power3s.{Power3s}
-use Rattle.power.specs.declared.ReadingOption.TheVariants.{None, Some}
 use Rattle.power.specs.Power.{added, average_of}
 use Rattle.readings.specs.declared.Sample.{Sample}
 use Rattle.readings.specs.declared.Compliance.TheVariants.{Under, In, Over}
@@ -28,8 +25,6 @@ use Rattle.readings.specs.Readings.{no_readings, taken, compliance_of}
 use Rattle.events.specs.Events.{Event}
 use Rattle.state.specs.declared.Player.{Player}
 use Rattle.start.specs.Start.{new_of}
-use Rattle.screen.specs.declared.SecsOption.{SecsOption}
-use Rattle.screen.specs.declared.SecsOption.TheVariants as seconds
 use Rattle.outcomes.specs.Outcomes.{Called}
 use Rattle.player.specs.Calls.{read_of, skip_of, extend_with, extend_of}
 use Rattle.reports.specs.Reports.{remaining_secs}
@@ -46,11 +41,11 @@ event kind value = record { kind = kind; value = value }
 abbrev pub compliance : Target → Sample → ComplianceOption
 compliance target sample = compliance_of target (band_of target (profile 250 160) 0) (profile 250 160) (taken sample no_readings)
 
-abbrev pub band_at : Target → ℕ → BandOption
+abbrev pub band_at : Target → ℕ → Option Band
 band_at target elapsed = band_of target (profile 250 160) elapsed
 
-abbrev pub power : ℕ → ℕ → BandOption
-power low high = bands.Some (band metrics.Power low high)
+abbrev pub power : ℕ → ℕ → Option Band
+power low high = Some (band metrics.Power low high)
 
 abbrev pub heart : ℕ → Sample
 heart bpm = record { power_watts = None; heart_bpm = Some bpm; cadence_tenths = None }
@@ -68,7 +63,7 @@ three_steps =
 abbrev pub after : Player → ℕ → Player
 after p ms = (ridden p ms).player
 
-abbrev pub seconds_left : Player → SecsOption
+abbrev pub seconds_left : Player → Option ℕ
 seconds_left p = (remaining_secs p).secs
 
 -- Two tests, one after the other, of so many seconds each.
@@ -110,10 +105,10 @@ pub record Facts : Type 0 where
   pub lone : average_of (added None (added (Some 150) no_power)) ≡ Some 150
   pub no-reading : average_of (added None no_power) ≡ None
   -- model.rs, `band`: one of each kind of target, at FTP 250 and LTHR 160, some seconds into its step
-  pub no_target : band_at targets.Free 0 ≡ bands.None
+  pub no_target : band_at targets.Free 0 ≡ None
   pub watts_band : band_at (targets.Watts 100 200) 0 ≡ power 100 200
-  pub lthr_band : band_at (targets.Lthr 81 90) 0 ≡ bands.Some (band metrics.Heart 130 144)
-  pub cadence_band : band_at (targets.Cadence 85 95) 0 ≡ bands.Some (band metrics.Cadence 85 95)
+  pub lthr_band : band_at (targets.Lthr 81 90) 0 ≡ Some (band metrics.Heart 130 144)
+  pub cadence_band : band_at (targets.Cadence 85 95) 0 ≡ Some (band metrics.Cadence 85 95)
   pub ramp-band : (band_at (targets.Ramp 100 20 60) 59 ≡ power 95 110) × (band_at (targets.Ramp 100 20 60) 60 ≡ power 114 132)
   pub ftp_ramp_band : (band_at (targets.FtpRamp 50 5 60) 59 ≡ power 119 138) × (band_at (targets.FtpRamp 50 5 60) 60 ≡ power 131 152)
   -- "FTP 250, 90 to 95%: 225 to 238.": a reading at either end is In
@@ -142,18 +137,18 @@ pub record Facts : Type 0 where
   pub in_many : ((ridden (after two_steps 7000) 1000).events ≡ event 0 2 ∷ []) × ((ridden (after two_steps 8000) 1000).events ≡ event 0 1 ∷ [])
   pub in_the_end : (ridden (after two_steps 9000) 1000).events ≡ event 1 1 ∷ []
   -- player.rs, `remaining_secs`: rounded up
-  pub left : (seconds_left (after two_steps 1) ≡ seconds.Some 20) × (seconds_left (after two_steps 999) ≡ seconds.Some 20)
-  pub left_less : (seconds_left (after two_steps 1000) ≡ seconds.Some 19) × (seconds_left (after two_steps 19999) ≡ seconds.Some 1)
+  pub left : (seconds_left (after two_steps 1) ≡ Some 20) × (seconds_left (after two_steps 999) ≡ Some 20)
+  pub left_less : (seconds_left (after two_steps 1000) ≡ Some 19) × (seconds_left (after two_steps 19999) ≡ Some 1)
   -- player.rs, `RAMP_FAIL_PCT`, `RAMP_FAIL_MS`: a rider under 90 % of the ramp for 10,000 ms gives up, and one at 90 % doesn't
   pub gives_up : (ridden (ramping 10 89) 10000).events ≡ event 2 0 ∷ []
   pub just_not : ((ridden (ramping 10 89) 9999).events ≡ []) × ((ridden (after (ramping 10 89) 9999) 1).events ≡ event 2 0 ∷ [])
   pub holds : (ridden (after (ramping 10 90) 9999) 1).events ≡ []
   -- document 02, i: "The plain extend call now gives 30 s or 250 m.", and a call with the amount
-  pub plain : (seconds_left (extend_of two_steps).player ≡ seconds.Some 50) × (metres_more (extend_of hundred_metres).player ≡ 250)
-  pub by_amount : (seconds_left (extend_with 60 500 two_steps).player ≡ seconds.Some 80) × (metres_more (extend_with 60 500 hundred_metres).player ≡ 500)
+  pub plain : (seconds_left (extend_of two_steps).player ≡ Some 50) × (metres_more (extend_of hundred_metres).player ≡ 250)
+  pub by_amount : (seconds_left (extend_with 60 500 two_steps).player ≡ Some 80) × (metres_more (extend_with 60 500 hundred_metres).player ≡ 500)
   -- "its extra at most 86,400 s or 1,000,000 m after it? 15"
-  pub most_seconds : ((extend_with 86400 0 two_steps).answer ≡ Accepted) × ((extend_with 86401 0 two_steps).answer ≡ Refused refusals.Extra)
-  pub most_metres : ((extend_with 0 1000000 hundred_metres).answer ≡ Accepted) × ((extend_with 0 1000001 hundred_metres).answer ≡ Refused refusals.Extra)
+  pub most_seconds : ((extend_with 86400 0 two_steps).answer ≡ Ok tt) × ((extend_with 86401 0 two_steps).answer ≡ Err refusals.Extra)
+  pub most_metres : ((extend_with 0 1000000 hundred_metres).answer ≡ Ok tt) × ((extend_with 0 1000001 hundred_metres).answer ≡ Err refusals.Extra)
   -- 0 at the limit is let through; "Open or finished gives `false`, no refusal."
   pub none_more : (extend_with 0 0 (extend_with 86400 0 two_steps).player).extended ≡ true
   pub not_extended_lem : ((extend_of (ramping 10 90)).extended ≡ false) × ((extend_of (after three_steps 30000)).extended ≡ false)

@@ -5,27 +5,24 @@ mod table;
 
 ghost use Rattle.std.specs.Prelude.{◌≡◌, [], ◌∷◌};
 ghost use Rattle.checksum.specs.V42.{Division, check_of};
-ghost use Rattle.checksum.specs.Register.{remainders, byte_step, Agreement};
+ghost use Rattle.checksum.specs.Register.{byte_step, Agreement};
 
-// The register after one byte. The table is lent, since a constant array is built anew wherever it is named.
-fn byte_step(table: &[u32; 256], register: u32, byte: u8) -> u32
-    requires { table.now ≡ remainders 256 0 }
+use table::TABLE;
+
+// The register after one byte.
+fn byte_step(register: u32, byte: u8) -> u32
     ensures { result ≡ byte_step register byte }
 {
     let index = ((register ^ (byte as u32)) % 256) as usize;
-    table[index] ^ (register / 256)
+    TABLE[index] ^ (register / 256)
 }
 
 pub fn crc32(bytes: &[u8]) -> u32
     ensures { result ≡ check_of bytes.now }
 {
-    let table = table::TABLE;
-    let mut register: u32 = 0xffffffff;
-    let mut i: usize = 0;
-    while i < bytes.len() {
-        register = byte_step(&table, register, bytes[i]);
-        i += 1;
-    }
+    let register = bytes
+        .iter()
+        .fold(0xffffffff, |register, byte| byte_step(register, *byte));
     register ^ 0xffffffff
 }
 

@@ -1,4 +1,5 @@
 -- A workout that is written is read again.
+use Rattle.std.specs.Prelude.{Ok, Option, Some}
 use mathlib.Core.Path.{◌≡◌, refl, sym, ap, ap₂, ◌∙◌}
 use mathlib.Core.Bool.{Bool, true, false, ◌&&◌}
 use mathlib.Core.List.{List, [], ◌∷◌, ◌++◌, append_assoc, append-nil, flat_map}
@@ -14,7 +15,6 @@ use Rattle.le.specs.Le.{number_of, bytes_of, part}
 use Rattle.le.proofs.Laws.{number_bytes, length-bytes}
 use Rattle.checksum.specs.V42.{check_of}
 use Rattle.checksum.proofs.V42.{check-lt}
-use Rattle.refusal.specs.declared.Answer.TheVariants.{Accepted}
 use Rattle.refusal.specs.declared.Invalid.TheVariants as invalids
 use Rattle.refusal.specs.declared.Refusal.TheVariants as refusals
 use Rattle.refusal.specs.Number.{ask}
@@ -35,11 +35,10 @@ use Rattle.cursor.specs.Reading.{Read, got, behind, and_then, take_bytes, read_b
 use Rattle.cursor.specs.Names.{name_bytes}
 use Rattle.steps.specs.Steps.{read_step}
 use Rattle.steps.specs.Bytes.{step_bytes}
-use Rattle.decode.specs.declared.TestOption.{TestOption}
-use Rattle.decode.specs.declared.TestOption.TheVariants as test_option
-use Rattle.decode.specs.Decode.{Head, test_of, read_counts, name_then, read_head, read_block, workout_of, judged, contents_of, body_of, begins, decode_of}
+use Rattle.decode.specs.declared.Head.{Head}
+use Rattle.decode.specs.Decode.{test_of, read_counts, name_then, read_head, read_block, workout_of, judged, contents_of, body_of, begins, decoded, decode_of}
 use Rattle.decode.proofs.File.{checked}
-use Rattle.decode.proofs.Parts.{ReadAt}
+use Rattle.cursor.proofs.Answers.{ReadAt}
 use Rattle.decode.proofs.Body.{all_read}
 use Rattle.encode.specs.Encode.{test_kind, block_bytes, head_bytes, body_bytes, file_bytes}
 use Rattle.encode.proofs.Sizes.{head-length}
@@ -52,7 +51,7 @@ use Rattle.codec.proofs.Names.{name-len, name_back}
 use Rattle.codec.proofs.Steps.{step_back}
 use Rattle.codec.proofs.Many.{Back, many-back}
 
-pub test_back : (t : Test) → test_of (test_kind t) ≡ test_option.Some t
+pub test_back : (t : Test) → test_of (test_kind t) ≡ Some t
 unfolding test_of
 test_back tests.None = refl
 test_back tests.Twenty = refl
@@ -82,7 +81,7 @@ head-back w rest sized ok s b =
     let t = w.test in
     let counts = w.step_count ∷ w.block_count ∷ rest in
     let r = name_bytes w.name ++ counts in
-    ap (λ (o : TestOption). behind 1 (name_then o r)) (test_back t)
+    ap (λ (o : Option Test). behind 1 (name_then o r)) (test_back t)
     ∙ ap (λ (m : Read Name). behind 1 (and_then r m (read_counts t))) (name_back w.name sized ok counts)
     ∙ ap (λ (l : List ℕ). behind 1 (behind (1 + w.name.len) (read_counts t w.name l)))
     (drop_at (name_bytes w.name) counts (1 + w.name.len) (name-size w.name (name-len w.name sized ok) sized))
@@ -151,7 +150,7 @@ module _ (w : Workout) (fits : WorkoutFits w) (ok : form_ok w ≡ true) where
   unfolding body_bytes
   after-head n e = drop_at (head_bytes w) (flat_map step_bytes (steps_of w) ++ flat_map block_bytes (blocks_of w)) n e
 
-  contents-back : valid_answer w ≡ Accepted → contents_of (body_bytes w) ≡ accepted_as w
+  contents-back : valid_answer w ≡ Ok tt → contents_of (body_bytes w) ≡ Ok w
   contents-back v =
       let f = form-parts w ok in
       let u = form-unused w ok in
@@ -199,24 +198,24 @@ steps-most (x ∷ xs) fits ok =
     let note = name-size x.note short fits.0.noted in
     (omega arith, omega arith)
 
-accepted-steps : (w : Workout) → valid_answer w ≡ Accepted → 0 < w.step_count
+accepted-steps : (w : Workout) → valid_answer w ≡ Ok tt → 0 < w.step_count
 unfolding valid_answer
 accepted-steps w = go (ltb 0 w.step_count) refl
   where
     go : (t : Bool) → ltb 0 w.step_count ≡ t
         → ask t (refusals.Invalid invalids.NoSteps)
         (ask (blocks_sound (length (steps_of w)) (blocks_of w)) (refusals.Invalid invalids.Block)
-        (ask (steps_sound (steps_of w)) (refusals.Invalid invalids.Step) (ask (leb (played_len w) 96) (refusals.Invalid invalids.TooLong) Accepted)))
-        ≡ Accepted
+        (ask (steps_sound (steps_of w)) (refusals.Invalid invalids.Step) (ask (leb (played_len w) 96) (refusals.Invalid invalids.TooLong) (Ok tt))))
+        ≡ Ok tt
         → 0 < w.step_count
     go true t e = ltb-true 0 w.step_count t
     go false t e = let z : ◌≡◌ {A = ℕ} 0 1 = cc in absurd (omega arith)
 
-module _ (w : Workout) (fits : WorkoutFits w) (accepted : workout_answer w ≡ Accepted) where
+module _ (w : Workout) (fits : WorkoutFits w) (accepted : workout_answer w ≡ Ok tt) where
   passes-5 : form_ok w ≡ true
   passes-5 = accepted-form w [] accepted
 
-  passes-6-to-9 : valid_answer w ≡ Accepted
+  passes-6-to-9 : valid_answer w ≡ Ok tt
   unfolding workout_answer
   passes-6-to-9 = ap (λ (t : Bool). ask t refusals.Field (valid_answer w)) (sym passes-5) ∙ accepted
 
@@ -250,10 +249,12 @@ module _ (w : Workout) (fits : WorkoutFits w) (accepted : workout_answer w ≡ A
       ∙ number_bytes 4 c (check-lt (body_bytes w)))
 
   file-back : decode_of (file_bytes w) ≡ accepted_as w
+  unfolding decode_of
   file-back =
-      sym (checked (file_bytes w) (omega (arith, size-bounds.0)) size-bounds.1 magic-again version-again check-again)
+      ap decoded
+      (sym (checked (file_bytes w) (omega (arith, size-bounds.0)) size-bounds.1 magic-again version-again check-again)
       ∙ ap contents_of body-of-file
-      ∙ contents-back w fits passes-5 passes-6-to-9
+      ∙ contents-back w fits passes-5 passes-6-to-9)
 
 pub written-is-read : WrittenIsRead
 written-is-read =

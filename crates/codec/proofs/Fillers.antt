@@ -1,4 +1,5 @@
 -- A file that is written has filler values of 0, so that an accepted file is written as it stood only where its own are 0.
+use Rattle.std.specs.Prelude.{Ok}
 use mathlib.Core.Path.{◌≡◌, refl, sym, ap, ◌∙◌}
 use mathlib.Core.Bool.{true}
 use mathlib.Core.List.{List, [], ◌∷◌, ◌++◌, append_assoc, flat_map}
@@ -10,7 +11,6 @@ use Rattle.common.specs.Lists.{all}
 use Rattle.common.proofs.Tests.{and_left, and_right, and_both}
 use Rattle.common.proofs.Lists.{all_append}
 use Rattle.le.specs.Le.{number_of, bytes_of}
-use Rattle.refusal.specs.declared.Answer.TheVariants.{Accepted}
 use Rattle.names.specs.Names.{is_zero}
 use Rattle.model.specs.declared.Intensity.{Intensity}
 use Rattle.model.specs.declared.Length.{Length}
@@ -71,7 +71,7 @@ steps-zero (x ∷ xs) fits ok rest =
     (ap (λ (m : List ℕ). all is_zero (steps_fillers n m)) (drop_at (step_bytes x) more (step_size l) size)
     ∙ steps-zero xs fits.1 (and_right (note_ok x) (all note_ok xs) ok) rest)
 
-pub written-fillers : (w : Workout) → WorkoutFits w → workout_answer w ≡ Accepted → all is_zero (fillers (file_bytes w)) ≡ true
+pub written-fillers : (w : Workout) → WorkoutFits w → workout_answer w ≡ Ok tt → all is_zero (fillers (file_bytes w)) ≡ true
 unfolding fillers
 written-fillers w fits accepted =
     let f = form-parts w (accepted-form w [] accepted) in

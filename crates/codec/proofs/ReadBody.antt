@@ -1,4 +1,5 @@
 -- What a file that is accepted says of its workout: its body's bytes are the workout's where the filler values are 0.
+use Rattle.std.specs.Prelude.{None, Option, Some}
 use mathlib.Core.Path.{◌≡◌, refl, sym, ap, ap₂, ◌∙◌, subst}
 use mathlib.Core.Bool.{true, ◌&&◌}
 use mathlib.Core.List.{List, [], ◌∷◌, ◌++◌, append-nil, flat_map}
@@ -27,9 +28,8 @@ use Rattle.cursor.specs.Reading.{got, take_bytes, read_byte, read_many}
 use Rattle.cursor.specs.Names.{name_bytes, read_name}
 use Rattle.steps.specs.Steps.{read_step}
 use Rattle.steps.specs.Bytes.{step_bytes}
-use Rattle.decode.specs.declared.TestOption.{TestOption}
-use Rattle.decode.specs.declared.TestOption.TheVariants as test_option
-use Rattle.decode.specs.Decode.{Head, test_of, judge_counts, read_block_count, read_counts, name_then, read_head, block_of, read_block, workout_of, ended, read_body}
+use Rattle.decode.specs.declared.Head.{Head}
+use Rattle.decode.specs.Decode.{test_of, judge_counts, read_block_count, read_counts, name_then, read_head, block_of, read_block, workout_of, ended, read_body}
 use Rattle.encode.specs.Encode.{test_kind, block_bytes, body_bytes}
 use Rattle.codec.specs.Typed.{NameFits, StepFits, AllFit, WorkoutFits}
 use Rattle.codec.specs.Fillers.{step_fillers, step_size, steps_fillers}
@@ -61,7 +61,7 @@ block-was l b k e =
     ∙ ap (λ (x : List ℕ). x ++ drop 3 l) (three (take 3 l) (length-take-le 3 l t.0))
     ∙ take-append-drop 3 l
 
-test-was : (kind : ℕ) (t : Test) → test_of kind ≡ test_option.Some t → test_kind t ≡ kind
+test-was : (kind : ℕ) (t : Test) → test_of kind ≡ Some t → test_kind t ≡ kind
 unfolding test_of
 test-was zero t e = let s : tests.None ≡ t = cc in sym (ap test_kind s)
 test-was (suc zero) t e = let s : tests.Twenty ≡ t = cc in sym (ap test_kind s)
@@ -125,9 +125,9 @@ head-was l h k e =
     go (test_of first.value) refl (drop first.size l) (ap (λ (j : ℕ). drop j l) p.0) first.more first.second (omega (arith, first.sum, p.0))
     p.1
   where
-    go : {kind : ℕ} (t : TestOption) → test_of kind ≡ t → (r : List ℕ) → r ≡ drop 1 l → (j : ℕ) → name_then t r ≡ got h j → k ≡ 1 + j → l ≡ kind ∷ drop 1 l
+    go : {kind : ℕ} (t : Option Test) → test_of kind ≡ t → (r : List ℕ) → r ≡ drop 1 l → (j : ℕ) → name_then t r ≡ got h j → k ≡ 1 + j → l ≡ kind ∷ drop 1 l
         → HeadWas l h k
-    go {kind} (test_option.Some t) x r from j e sum first =
+    go {kind} (Some t) x r from j e sum first =
         let second = then-got r (read_name r) (read_counts t) h j e in
         let name = second.value in
         let n = name-was r name second.size second.first in
@@ -149,7 +149,7 @@ head-was l h k e =
           steps = c.steps;
           blocks = c.blocks;
         }
-    go test_option.None x r from j e sum first = let z : ◌≡◌ {A = ℕ} 0 1 = cc in absurd (omega arith)
+    go None x r from j e sum first = let z : ◌≡◌ {A = ℕ} 0 1 = cc in absurd (omega arith)
 
 -- what holds of a step that was read
 abbrev StepOk : Step → Type 0

@@ -1,4 +1,5 @@
 -- A file that is read is written again as it stood, exactly where its filler values are 0.
+use Rattle.std.specs.Prelude.{Err, Ok, Result, ⊤}
 use mathlib.Core.Path.{◌≡◌, refl, sym, ap, ap₂, ◌∙◌}
 use mathlib.Core.Bool.{Bool, true, false, ◌&&◌}
 use mathlib.Core.List.{List, [], ◌∷◌, ◌++◌, append_assoc}
@@ -13,8 +14,6 @@ use Rattle.common.proofs.Tests.{and_left, and_right}
 use Rattle.le.specs.Le.{number_of, bytes_of, part, Bytes}
 use Rattle.le.proofs.Laws.{bytes_drop, bytes_take}
 use Rattle.checksum.specs.V42.{check_of}
-use Rattle.refusal.specs.declared.Answer.{Answer}
-use Rattle.refusal.specs.declared.Answer.TheVariants.{Accepted, Refused}
 use Rattle.refusal.specs.declared.Refusal.{Refusal}
 use Rattle.refusal.specs.declared.Refusal.TheVariants as refusals
 use Rattle.refusal.specs.Number.{ask}
@@ -25,7 +24,7 @@ use Rattle.validation.specs.Sound.{valid_answer, workout_answer}
 use Rattle.cursor.specs.Reading.{Read, got, refused}
 use Rattle.cursor.specs.Names.{name_bytes}
 use Rattle.decode.specs.declared.Decoded.{Decoded}
-use Rattle.decode.specs.Decode.{read_body, judged, validated, contents_of, asked, body_of, begins, decode_of}
+use Rattle.decode.specs.Decode.{read_body, judged, validated, contents_of, asked, body_of, begins, file_of, decoded, decode_of}
 use Rattle.encode.specs.Encode.{file_bytes}
 use Rattle.step_writer.proofs.Laws.{name-size}
 use Rattle.codec.specs.Typed.{NameFits, WorkoutFits}
@@ -61,28 +60,32 @@ module _ (t steps blocks : ℕ) (name : Name) (rest : List ℕ) (short : name.le
       ∙ drop_at front rest (4 + n) front-size in
       ap (λ (k : ℕ). steps_fillers (get_or body (5 + k) 0) (drop (7 + k) body)) (name-length body e) ∙ ap₂ steps_fillers count there
 
-asked-was : (t : Bool) (r : Refusal) (rest : Decoded) (w : Workout) → asked t r rest ≡ accepted_as w → (t ≡ true) × (rest ≡ accepted_as w)
+asked-was : (t : Bool) (r : Refusal) (rest : Result Workout Refusal) (w : Workout) → asked t r rest ≡ Ok w → (t ≡ true) × (rest ≡ Ok w)
 asked-was true r rest w e = (refl, e)
-asked-was false r rest w e = let f = ap (λ (d : Decoded). d.answer) e in let z : ◌≡◌ {A = ℕ} 0 1 = cc in absurd (omega arith)
+asked-was false r rest w e = let z : ◌≡◌ {A = ℕ} 0 1 = cc in absurd (omega arith)
+
+decoded-was : (m : Result Workout Refusal) (w : Workout) → decoded m ≡ accepted_as w → m ≡ Ok w
+decoded-was (Ok x) w e = ap (λ (d : Decoded). Ok d.workout) e
+decoded-was (Err r) w e = let f = ap (λ (d : Decoded). d.answer) e in let z : ◌≡◌ {A = ℕ} 0 1 = cc in absurd (omega arith)
 
 record ContentsWas (body : List ℕ) (w : Workout) : Type 0 where
   size : ℕ
   reads : read_body (drop 3 body) ≡ got w size
-  valid : valid_answer w ≡ Accepted
+  valid : valid_answer w ≡ Ok tt
 
-contents-was : (body : List ℕ) (w : Workout) → contents_of body ≡ accepted_as w → ContentsWas body w
+contents-was : (body : List ℕ) (w : Workout) → contents_of body ≡ Ok w → ContentsWas body w
 unfolding contents_of
 contents-was body w = go (read_body (drop 3 body)) refl
   where
-    judge : (x : Workout) (a : Answer) → valid_answer x ≡ a → judged x a ≡ accepted_as w → (x ≡ w) × (valid_answer x ≡ Accepted)
-    judge x Accepted v e = (ap (λ (d : Decoded). d.workout) e, v)
-    judge x (Refused r) v e = let f = ap (λ (d : Decoded). d.answer) e in let z : ◌≡◌ {A = ℕ} 0 1 = cc in absurd (omega arith)
+    judge : (x : Workout) (a : Result ⊤ Refusal) → valid_answer x ≡ a → judged x a ≡ Ok w → (x ≡ w) × (valid_answer x ≡ Ok tt)
+    judge x (Ok tt) v e = let same : x ≡ w = cc in (same, v)
+    judge x (Err r) v e = let z : ◌≡◌ {A = ℕ} 0 1 = cc in absurd (omega arith)
 
-    go : (m : Read Workout) → read_body (drop 3 body) ≡ m → validated m ≡ accepted_as w → ContentsWas body w
+    go : (m : Read Workout) → read_body (drop 3 body) ≡ m → validated m ≡ Ok w → ContentsWas body w
     go (got x n) p e =
         let j = judge x (valid_answer x) refl e in
         record { size = n; reads = p ∙ ap (λ (y : Workout). got y n) j.0; valid = ap valid_answer (sym j.0) ∙ j.1 }
-    go (refused r) p e = let f = ap (λ (d : Decoded). d.answer) e in let z : ◌≡◌ {A = ℕ} 0 1 = cc in absurd (omega arith)
+    go (refused r) p e = let z : ◌≡◌ {A = ℕ} 0 1 = cc in absurd (omega arith)
 
 -- "VW" and the version
 front-is : (b : List ℕ) → get_or b 0 0 ≡ 86 → get_or b 1 0 ≡ 87 → get_or b 2 0 ≡ 1 → b ≡ 86 ∷ 87 ∷ 1 ∷ drop 3 b
@@ -100,11 +103,12 @@ module _ (s : List ℕ) (bytes : Bytes s) (w : Workout) (e : decode_of s ≡ acc
     contents : ContentsWas (body_of s) w
 
   file-was : FileWas
-  unfolding decode_of
+  unfolding decode_of file_of
   file-was =
       let b = body_of s in
+      let read = decoded-was (file_of s) w e in
       let sized = leb 4 (length s) && leb (length s) 475 in
-      let one = asked-was sized refusals.Length _ w e in
+      let one = asked-was sized refusals.Length _ w read in
       let two = asked-was (begins b) refusals.Magic _ w one.1 in
       let three = asked-was (eqb (get_or b 2 0) 1) refusals.Version _ w two.1 in
       let four = asked-was (eqb (check_of b) (number_of (part s (length s - 4) 4))) refusals.Checksum (contents_of b) w three.1 in
@@ -126,7 +130,7 @@ module _ (s : List ℕ) (bytes : Bytes s) (w : Workout) (e : decode_of s ≡ acc
   pub read_fits : WorkoutFits w
   read_fits = body-fits (drop 3 (body_of s)) body_bytes_lem w body
 
-  pub read-accepted : workout_answer w ≡ Accepted
+  pub read-accepted : workout_answer w ≡ Ok tt
   unfolding workout_answer
   read-accepted = ap (λ (t : Bool). ask t refusals.Field (valid_answer w)) (body-form (drop 3 (body_of s)) body_bytes_lem w body) ∙ file-was.contents.valid
 

@@ -1,4 +1,5 @@
 -- A step that is read is written again as it stood where its filler values are 0, and its numbers fit their types.
+use Rattle.std.specs.Prelude.{None, Option, Some}
 use mathlib.Core.Path.{◌≡◌, refl, sym, ap, ap₂, ◌∙◌, subst}
 use mathlib.Core.Bool.{Bool, true, false, cond, ◌&&◌}
 use mathlib.Core.List.{List, [], ◌∷◌, ◌++◌, append_assoc}
@@ -22,15 +23,6 @@ use Rattle.model.specs.declared.Target.TheVariants as targets
 use Rattle.model.specs.declared.Step.{Step}
 use Rattle.cursor.specs.Reading.{got, behind}
 use Rattle.cursor.specs.Names.{name_bytes, read_name}
-use Rattle.steps.specs.declared.IntensityOption.{IntensityOption}
-use Rattle.steps.specs.declared.IntensityOption.TheVariants as intensity
-use Rattle.steps.specs.declared.LengthOption.{LengthOption}
-use Rattle.steps.specs.declared.LengthOption.TheVariants as length_option
-use Rattle.steps.specs.declared.TargetOption.{TargetOption}
-use Rattle.steps.specs.declared.TargetOption.TheVariants as target_option
-use Rattle.steps.specs.declared.SmallOption.TheVariants as small
-use Rattle.steps.specs.declared.Fixed.{Fixed}
-use Rattle.steps.specs.declared.Fixed.TheVariants as fixed
 use Rattle.steps.specs.Steps.{intensity_of, length_of, by_small, small_of, plain_of, target_of, length_then, fixed_of, step_of, note_then, read_step}
 use Rattle.steps.specs.Bytes.{intensity_kind, length_kind, length_value, target_kind, first_value, second_value, third_value, fixed_bytes, step_bytes}
 use Rattle.codec.specs.Typed.{LengthFits, TargetFits, Below, StepFits}
@@ -38,7 +30,7 @@ use Rattle.codec.specs.Fillers.{target_fillers, step_fillers, step_size}
 use Rattle.codec.proofs.Parts.{enough-got, behind-got, then-got}
 use Rattle.codec.proofs.ReadNames.{name-was}
 
-intensity-was : (kind : ℕ) (i : Intensity) → intensity_of kind ≡ intensity.Some i → intensity_kind i ≡ kind
+intensity-was : (kind : ℕ) (i : Intensity) → intensity_of kind ≡ Some i → intensity_kind i ≡ kind
 unfolding intensity_of
 intensity-was zero i e = let s : intensities.Warmup ≡ i = cc in sym (ap intensity_kind s)
 intensity-was (suc zero) i e = let s : intensities.Work ≡ i = cc in sym (ap intensity_kind s)
@@ -53,20 +45,20 @@ record LengthWas (kind value : ℕ) (l : Length) : Type 0 where
   fits : LengthFits l
 
 -- of the length that a kind and a value stand for
-length-is : (l x : Length) (kind value : ℕ) → length_option.Some l ≡ length_option.Some x → length_kind l ≡ kind → length_value l ≡ value → LengthFits l → LengthWas kind value x
+length-is : (l x : Length) (kind value : ℕ) → Some l ≡ Some x → length_kind l ≡ kind → length_value l ≡ value → LengthFits l → LengthWas kind value x
 length-is l x kind value e k v f = let s : l ≡ x = cc in subst (LengthWas kind value) s (record { kind-is = k; value-is = v; fits = f })
 
-length-was : (kind value : ℕ) (l : Length) → value < 256 ^ 4 → length_of kind value ≡ length_option.Some l → LengthWas kind value l
+length-was : (kind value : ℕ) (l : Length) → value < 256 ^ 4 → length_of kind value ≡ Some l → LengthWas kind value l
 unfolding length_of
 length-was zero value l h e = go (ltb value 65536) refl e
   where
-    go : (t : Bool) → ltb value 65536 ≡ t → cond t (length_option.Some (lengths.Time value)) length_option.None ≡ length_option.Some l → LengthWas 0 value l
+    go : (t : Bool) → ltb value 65536 ≡ t → cond t (Some (lengths.Time value)) None ≡ Some l → LengthWas 0 value l
     go true t e = length-is (lengths.Time value) l 0 value e refl refl (ltb-true value 65536 t)
     go false t e = let z : ◌≡◌ {A = ℕ} 0 1 = cc in absurd (omega arith)
 length-was (suc zero) value l h e = length-is (lengths.Distance value) l 1 value e refl refl (omega arith)
 length-was (suc (suc zero)) value l h e = go (eqb value 0) refl e
   where
-    go : (t : Bool) → eqb value 0 ≡ t → cond t (length_option.Some lengths.Open) length_option.None ≡ length_option.Some l → LengthWas 2 value l
+    go : (t : Bool) → eqb value 0 ≡ t → cond t (Some lengths.Open) None ≡ Some l → LengthWas 2 value l
     go true t e = length-is lengths.Open l 2 value e refl (sym (eqb-true value 0 t)) tt
     go false t e = let z : ◌≡◌ {A = ℕ} 0 1 = cc in absurd (omega arith)
 length-was (suc (suc (suc k))) value l h e = let z : ◌≡◌ {A = ℕ} 0 1 = cc in absurd (omega arith)
@@ -80,18 +72,18 @@ record TargetWas (kind a b c : ℕ) (t : Target) : Type 0 where
   fits : TargetFits t
 
 -- of a target that is read where a test holds
-plain-was : (c : ℕ) (t x : Target) → plain_of c t ≡ target_option.Some x → (c ≡ 0) × (t ≡ x)
+plain-was : (c : ℕ) (t x : Target) → plain_of c t ≡ Some x → (c ≡ 0) × (t ≡ x)
 plain-was c t x = go (eqb c 0) refl
   where
-    go : (p : Bool) → eqb c 0 ≡ p → cond p (target_option.Some t) target_option.None ≡ target_option.Some x → (c ≡ 0) × (t ≡ x)
+    go : (p : Bool) → eqb c 0 ≡ p → cond p (Some t) None ≡ Some x → (c ≡ 0) × (t ≡ x)
     go true p e = let s : t ≡ x = cc in (eqb-true c 0 p, s)
     go false p e = let z : ◌≡◌ {A = ℕ} 0 1 = cc in absurd (omega arith)
 
-small-was : (made : ℕ → ℕ → TargetOption) (a b : ℕ) (x : Target) → by_small made (small_of a b) ≡ target_option.Some x → Below 256 a b × (made a b ≡ target_option.Some x)
+small-was : (made : ℕ → ℕ → Option Target) (a b : ℕ) (x : Target) → by_small made (small_of a b) ≡ Some x → Below 256 a b × (made a b ≡ Some x)
 small-was made a b x = go (ltb a 256) refl (ltb b 256) refl
   where
-    go : (p : Bool) → ltb a 256 ≡ p → (q : Bool) → ltb b 256 ≡ q → by_small made (cond p (cond q (small.Some a b) small.None) small.None) ≡ target_option.Some x
-        → Below 256 a b × (made a b ≡ target_option.Some x)
+    go : (p : Bool) → ltb a 256 ≡ p → (q : Bool) → ltb b 256 ≡ q → by_small made (cond p (cond q (Some (a, b)) None) None) ≡ Some x
+        → Below 256 a b × (made a b ≡ Some x)
     go true p true q e = ((ltb-true a 256 p, ltb-true b 256 q), e)
     go true p false q e = let z : ◌≡◌ {A = ℕ} 0 1 = cc in absurd (omega arith)
     go false p q r e = let z : ◌≡◌ {A = ℕ} 0 1 = cc in absurd (omega arith)
@@ -106,14 +98,14 @@ used a b c t x e f s h fits = subst (TargetWas (target_kind t) a b c) e (record 
 
 -- of a target that takes two numbers of a byte each and no third
 pair : (made : ℕ → ℕ → Target) (a b c : ℕ) (x : Target) → ((a b : ℕ) → first_value (made a b) ≡ a) → ((a b : ℕ) → second_value (made a b) ≡ b)
-    → third_value (made a b) ≡ 0 → (Below 256 a b → TargetFits (made a b)) → by_small (λ m n. plain_of c (made m n)) (small_of a b) ≡ target_option.Some x
+    → third_value (made a b) ≡ 0 → (Below 256 a b → TargetFits (made a b)) → by_small (λ m n. plain_of c (made m n)) (small_of a b) ≡ Some x
     → TargetWas (target_kind (made a b)) a b c x
 pair made a b c x f s h fits e =
     let w = small-was (λ m n. plain_of c (made m n)) a b x e in
     let p = plain-was c (made a b) x w.1 in
     used a b c (made a b) x p.1 (f a b) (s a b) (h ∙ sym p.0) (fits w.0)
 
-target-was : (kind a b c : ℕ) (t : Target) → Values a b c → target_of kind a b c ≡ target_option.Some t → TargetWas kind a b c t
+target-was : (kind a b c : ℕ) (t : Target) → Values a b c → target_of kind a b c ≡ Some t → TargetWas kind a b c t
 unfolding target_of all
 target-was zero a b c t v e =
     let p = plain-was c targets.Free t e in
@@ -140,30 +132,37 @@ target-was (suc (suc (suc (suc (suc (suc zero)))))) a b c t v e =
     let s : targets.Ramp a b c ≡ t = cc in
     used a b c (targets.Ramp a b c) t s refl refl refl (omega (arith, v.0), omega (arith, v.1), omega (arith, v.2))
 target-was (suc (suc (suc (suc (suc (suc (suc zero))))))) a b c t v e =
-    let w = small-was (λ m n. target_option.Some (targets.FtpRamp m n c)) a b t e in
+    let w = small-was (λ m n. Some (targets.FtpRamp m n c)) a b t e in
     let f = w.1 in
     let s : targets.FtpRamp a b c ≡ t = cc in
     used a b c (targets.FtpRamp a b c) t s refl refl refl (w.0.0, w.0.1, omega (arith, v.2))
 target-was (suc (suc (suc (suc (suc (suc (suc (suc k)))))))) a b c t v e = let z : ◌≡◌ {A = ℕ} 0 1 = cc in absurd (omega arith)
 
 -- a step's fixed bytes: each was allowed
-record FixedWas (zero-byte : ℕ) (t : TargetOption) (l : LengthOption) (i : IntensityOption) (x : Intensity) (y : Length) (z : Target) : Type 0 where
+record FixedWas (zero-byte : ℕ) (t : Option Target) (l : Option Length) (i : Option Intensity) (x : Intensity) (y : Length) (z : Target) : Type 0 where
   zero-byte-is : zero-byte ≡ 0
-  target : t ≡ target_option.Some z
-  length : l ≡ length_option.Some y
-  intensity : i ≡ intensity.Some x
+  target : t ≡ Some z
+  length : l ≡ Some y
+  intensity : i ≡ Some x
 
-fixed-was : (zero-byte : ℕ) (t : TargetOption) (l : LengthOption) (i : IntensityOption) (x : Intensity) (y : Length) (z : Target)
-    → length_then l t zero-byte i ≡ fixed.Some x y z → FixedWas zero-byte t l i x y z
-fixed-was zero-byte (target_option.Some t) (length_option.Some l) (intensity.Some i) x y z e = go (eqb zero-byte 0) refl e
+fixed-was : (zero-byte : ℕ) (t : Option Target) (l : Option Length) (i : Option Intensity) (x : Intensity) (y : Length) (z : Target)
+    → length_then l t zero-byte i ≡ Some (x, y, z) → FixedWas zero-byte t l i x y z
+fixed-was zero-byte (Some t) (Some l) (Some i) x y z e = go (eqb zero-byte 0) refl e
   where
-    go : (p : Bool) → eqb zero-byte 0 ≡ p → cond p (fixed.Some i l t) fixed.None ≡ fixed.Some x y z
-        → FixedWas zero-byte (target_option.Some t) (length_option.Some l) (intensity.Some i) x y z
-    go true p e = record { zero-byte-is = eqb-true zero-byte 0 p; target = cc; length = cc; intensity = cc }
+    go : (p : Bool) → eqb zero-byte 0 ≡ p → cond {A = Option (Intensity × Length × Target)} p (Some (i, l, t)) None ≡ Some (x, y, z)
+        → FixedWas zero-byte (Some t) (Some l) (Some i) x y z
+    go true p e =
+        let same : ◌≡◌ {A = Intensity × Length × Target} (i, l, t) (x, y, z) = cc in
+        record {
+          zero-byte-is = eqb-true zero-byte 0 p;
+          target = ap (λ (q : Intensity × Length × Target). Some q.2) same;
+          length = ap (λ (q : Intensity × Length × Target). Some q.1) same;
+          intensity = ap (λ (q : Intensity × Length × Target). Some q.0) same;
+        }
     go false p e = let n : ◌≡◌ {A = ℕ} 0 1 = cc in absurd (omega arith)
-fixed-was zero-byte target_option.None (length_option.Some l) (intensity.Some i) x y z e = let n : ◌≡◌ {A = ℕ} 0 1 = cc in absurd (omega arith)
-fixed-was zero-byte t length_option.None (intensity.Some i) x y z e = let n : ◌≡◌ {A = ℕ} 0 1 = cc in absurd (omega arith)
-fixed-was zero-byte t l intensity.None x y z e = let n : ◌≡◌ {A = ℕ} 0 1 = cc in absurd (omega arith)
+fixed-was zero-byte None (Some l) (Some i) x y z e = let n : ◌≡◌ {A = ℕ} 0 1 = cc in absurd (omega arith)
+fixed-was zero-byte t None (Some i) x y z e = let n : ◌≡◌ {A = ℕ} 0 1 = cc in absurd (omega arith)
+fixed-was zero-byte t l None x y z e = let n : ◌≡◌ {A = ℕ} 0 1 = cc in absurd (omega arith)
 
 module _ (l : List ℕ) (bytes : Bytes l) where
   -- a number of k bytes, written again
@@ -182,7 +181,7 @@ module _ (l : List ℕ) (bytes : Bytes l) where
   next j k at p q = ap₂ (λ (a b : List ℕ). a ++ b) p q ∙ sym (part-add j k l at)
 
   -- the parts of the bytes before the note
-  module _ (long : 15 ≤ length l) (i : Intensity) (n : Length) (t : Target) (e : fixed_of l ≡ fixed.Some i n t) where
+  module _ (long : 15 ≤ length l) (i : Intensity) (n : Length) (t : Target) (e : fixed_of l ≡ Some (i, n, t)) where
     parts : FixedWas (get_or l 13 0) (target_of (get_or l 6 0) (number_of (part l 7 2)) (number_of (part l 9 2)) (number_of (part l 11 2)))
         (length_of (get_or l 1 0) (number_of (part l 2 4))) (intensity_of (get_or l 0 0)) i n t
     unfolding fixed_of
@@ -223,8 +222,8 @@ step-was l s k bytes e =
     let b = behind-got 14 (note_then (fixed_of l) (drop 14 l)) s k f.1 in
     go (fixed_of l) refl b.0 f.0 b.1.0 b.1.1
   where
-    go : (x : Fixed) → fixed_of l ≡ x → (j : ℕ) → 15 ≤ length l → note_then x (drop 14 l) ≡ got s j → k ≡ 14 + j → StepWas l s k
-    go (fixed.Some i n t) x j long e sum =
+    go : (x : Option (Intensity × Length × Target)) → fixed_of l ≡ x → (j : ℕ) → 15 ≤ length l → note_then x (drop 14 l) ≡ got s j → k ≡ 14 + j → StepWas l s k
+    go (Some (i, n, t)) x j long e sum =
         let rest = then-got (drop 14 l) (read_name (drop 14 l)) (λ note _. got (step_of i n t note) 0) s j e in
         let note = rest.value in
         let second = rest.second in
@@ -246,4 +245,4 @@ step-was l s k bytes e =
               (record { lasts = (length-part-was l bytes long i n t x).fits; aims = (target-part-was l bytes long i n t x).fits; noted = was.fits });
           ok = ap (λ (y : Step). name_ok y.note) (sym made) ∙ was.ok;
         }
-    go fixed.None x j long e sum = let z : ◌≡◌ {A = ℕ} 0 1 = cc in absurd (omega arith)
+    go None x j long e sum = let z : ◌≡◌ {A = ℕ} 0 1 = cc in absurd (omega arith)

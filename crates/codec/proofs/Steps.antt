@@ -1,4 +1,5 @@
 -- A step that is written is read again.
+use Rattle.std.specs.Prelude.{Option, Some}
 use mathlib.Core.Path.{◌≡◌, refl, ap, ap₂, ◌∙◌}
 use mathlib.Core.Bool.{Bool, true, cond}
 use mathlib.Core.List.{List, ◌++◌, append_assoc}
@@ -20,18 +21,13 @@ use Rattle.model.specs.declared.Target.TheVariants as targets
 use Rattle.model.specs.declared.Step.{Step}
 use Rattle.cursor.specs.Reading.{Read, got, refused, behind, and_then}
 use Rattle.cursor.specs.Names.{name_bytes}
-use Rattle.steps.specs.declared.IntensityOption.TheVariants as intensity
-use Rattle.steps.specs.declared.LengthOption.TheVariants as length_option
-use Rattle.steps.specs.declared.TargetOption.TheVariants as target_option
-use Rattle.steps.specs.declared.Fixed.{Fixed}
-use Rattle.steps.specs.declared.Fixed.TheVariants as fixed
 use Rattle.steps.specs.Steps.{intensity_of, length_of, target_of, fixed_of, step_of, note_then, read_step}
 use Rattle.steps.specs.Bytes.{intensity_kind, length_kind, length_value, target_kind, first_value, second_value, third_value, fixed_bytes, step_bytes}
 use Rattle.step_writer.proofs.Laws.{name-size}
 use Rattle.codec.specs.Typed.{LengthFits, TargetFits, StepFits}
 use Rattle.codec.proofs.Names.{name-len, name_back}
 
-intensity-back : (i : Intensity) → intensity_of (intensity_kind i) ≡ intensity.Some i
+intensity-back : (i : Intensity) → intensity_of (intensity_kind i) ≡ Some i
 unfolding intensity_of
 intensity-back intensities.Warmup = refl
 intensity-back intensities.Work = refl
@@ -39,7 +35,7 @@ intensity-back intensities.Recovery = refl
 intensity-back intensities.Cooldown = refl
 intensity-back intensities.Test = refl
 
-length_back : (l : Length) → LengthFits l → length_of (length_kind l) (length_value l) ≡ length_option.Some l
+length_back : (l : Length) → LengthFits l → length_of (length_kind l) (length_value l) ≡ Some l
 unfolding length_of
 length_back (lengths.Time secs) h = rw (lt-ltb secs 65536 h)
 length_back (lengths.Distance metres) h = refl
@@ -66,7 +62,7 @@ values-fit (targets.Cadence low high) h = record { first = omega arith; second =
 values-fit (targets.Ramp start step every) h = record { first = omega arith; second = omega arith; third = omega arith }
 values-fit (targets.FtpRamp start step every) h = record { first = omega arith; second = omega arith; third = omega arith }
 
-target-back : (t : Target) → TargetFits t → target_of (target_kind t) (first_value t) (second_value t) (third_value t) ≡ target_option.Some t
+target-back : (t : Target) → TargetFits t → target_of (target_kind t) (first_value t) (second_value t) (third_value t) ≡ Some t
 unfolding target_of
 target-back targets.Free h = refl
 target-back (targets.Ftp low high) h = rw (lt-ltb low 256 h.0, lt-ltb high 256 h.1)
@@ -77,7 +73,7 @@ target-back (targets.Cadence low high) h = rw (lt-ltb low 256 h.0, lt-ltb high 2
 target-back (targets.Ramp start step every) h = refl
 target-back (targets.FtpRamp start step every) h = rw (lt-ltb start 256 h.0, lt-ltb step 256 h.1)
 
-fixed_back : (i : Intensity) (l : Length) (t : Target) (rest : List ℕ) → LengthFits l → TargetFits t → fixed_of (fixed_bytes i l t ++ rest) ≡ fixed.Some i l t
+fixed_back : (i : Intensity) (l : Length) (t : Target) (rest : List ℕ) → LengthFits l → TargetFits t → fixed_of (fixed_bytes i l t ++ rest) ≡ Some (i, l, t)
 unfolding fixed_of fixed_bytes bytes_of
 fixed_back i l t rest hl ht =
     let v = values-fit t ht in
@@ -115,6 +111,6 @@ module _ (s : Step) (fits : StepFits s) (ok : name_ok s.note ≡ true) where
       ap read_step (append_assoc f n rest)
       ∙ ap (λ (b : Bool). cond b (behind 14 (note_then (fixed_of (f ++ (n ++ rest))) (drop 14 (f ++ (n ++ rest))))) (refused refusals.Length))
       (le-leb 15 (length (f ++ (n ++ rest))) long)
-      ∙ ap₂ (λ (x : Fixed) (y : List ℕ). behind 14 (note_then x y)) (fixed_back i l t (n ++ rest) fits.lasts fits.aims) (fixed-past i l t (n ++ rest))
+      ∙ ap₂ (λ (x : Option (Intensity × Length × Target)) (y : List ℕ). behind 14 (note_then x y)) (fixed_back i l t (n ++ rest) fits.lasts fits.aims) (fixed-past i l t (n ++ rest))
       ∙ ap (λ (m : Read Name). behind 14 (and_then (n ++ rest) m (λ note _. got (step_of i l t note) 0))) (name_back s.note fits.noted ok rest)
       ∙ ap (got s) size

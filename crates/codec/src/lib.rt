@@ -62,11 +62,7 @@ fn step_fits(step: Step)
 pub fn workout_fits(workout: Workout)
     ensures { WorkoutFits workout }
 {
-    let steps = workout.steps;
-    let mut i: usize = 0;
-    while i < 12 {
-        let step = steps[i];
-        step_fits(step);
-        i += 1;
+    for step in &workout.steps {
+        step_fits(*step);
     }
 }

@@ -1,20 +1,17 @@
 -- The words of the answers, from the definitions of the crates that are asked.
-use Rattle.std.specs.Prelude.{cond, List, [], ◌∷◌, ℕ, ◌+◌, ◌-◌, ◌*◌, ◌%◌, min, get_or}
+use Rattle.std.specs.Prelude.{cond, List, [], ◌∷◌, ℕ, ◌+◌, ◌-◌, ◌*◌, ◌%◌, min, get_or, None, Option, Some, is_some}
 use Rattle.names.specs.declared.Name.{Name}
 use Rattle.names.specs.Names.{name_from}
 use Rattle.zones.specs.Zones.{percent_of, power_zone, heart_zone, power_range, heart_range}
 use Rattle.zones.specs.declared.Range.{Range}
 use Rattle.model.specs.Target.{band_of, ramp_option, stage_of, stage_watts, watts_at}
-use Rattle.model.specs.declared.BandOption.{BandOption}
-use Rattle.model.specs.declared.BandOption.TheVariants as bands
 use Rattle.model.specs.declared.Metric.{Metric}
 use Rattle.model.specs.declared.Metric.TheVariants as metrics
 use Rattle.model.specs.declared.Ramp.{Ramp}
-use Rattle.model.specs.declared.RampOption.{RampOption}
-use Rattle.model.specs.declared.RampOption.TheVariants as ramps
 use Rattle.model.specs.declared.Workout.{Workout}
-use Rattle.order.specs.Order.{played_len, played_of, planned_from, has_untimed}
-use Rattle.order.specs.declared.PlayedOption.{PlayedOption}
+use Rattle.model.specs.declared.Band.{Band}
+use Rattle.order.specs.Order.{played_len, played_of, planned_from, has_untimed, played_in}
+use Rattle.order.specs.declared.Played.{Played}
 use Rattle.refusal.specs.Number.{answer_number}
 use Rattle.validation.specs.Sound.{valid_answer}
 use Rattle.compare.specs.Input.{word_at, low16, low8, profile_at, target_at, ramp_at, workout_at}
@@ -35,13 +32,13 @@ metric_number metrics.Power = 0
 metric_number metrics.Heart = 1
 metric_number metrics.Cadence = 2
 
-abbrev pub band_word : BandOption → ℕ → ℕ
-band_word bands.None place = 0
-band_word (bands.Some band) place = four_words 1 (metric_number band.metric) band.low band.high place
+abbrev pub band_word : Option Band → ℕ → ℕ
+band_word None place = 0
+band_word (Some band) place = four_words 1 (metric_number band.metric) band.low band.high place
 
-abbrev pub ramp_word : RampOption → ℕ → ℕ
-ramp_word ramps.None place = 0
-ramp_word (ramps.Some ramp) place = four_words 1 ramp.start ramp.step ramp.every place
+abbrev pub ramp_word : Option Ramp → ℕ → ℕ
+ramp_word None place = 0
+ramp_word (Some ramp) place = four_words 1 ramp.start ramp.step ramp.every place
 
 abbrev pub stage_word : Ramp → ℕ → ℕ → ℕ → ℕ
 stage_word ramp elapsed stage place = four_words (stage_of ramp elapsed) (stage_watts ramp stage) (watts_at ramp elapsed) 0 place
@@ -51,10 +48,10 @@ abbrev pub name_word : Name → ℕ → ℕ
 name_word name place = get_or (name.len ∷ name.bytes) place 0
 
 -- a played step in one word, 0 where there is none
-abbrev pub played_word : PlayedOption → ℕ
+abbrev pub played_word : Option Played → ℕ
 played_word option =
-    cond option.found
-    (16777216 + 65536 * option.played.index + 256 * option.played.repetition + option.played.of)
+    cond (is_some option)
+    (16777216 + 65536 * (played_in option).index + 256 * (played_in option).repetition + (played_in option).of)
     0
 
 -- played length, planned seconds, whether a step is untimed

@@ -11,12 +11,12 @@ ghost use Rattle.compare.specs.Answers.{four_words, percent_word, range_word, me
 
 use common::least;
 use model::{
-    BandOption, Block, Intensity, Length, MAX_BLOCKS, MAX_STEPS, Metric, NO_BLOCK, NO_STEP, Ramp,
-    RampOption, Step, Target, Test, Workout,
+    Band, Block, Intensity, Length, MAX_BLOCKS, MAX_STEPS, Metric, NO_BLOCK, NO_STEP, Ramp, Step,
+    Target, Test, Workout,
 };
 use names::Name;
-use order::{PlayedOption, has_untimed_steps, planned_secs, played_at, played_len};
-use refusal::Answer;
+use order::{Played, has_untimed_steps, planned_secs, played_at, played_len};
+use refusal::Refusal;
 use validation::validate;
 use zones::{Range, TrainingProfile};
 
@@ -191,11 +191,9 @@ fn steps_at(input: &[u8], count: u8) -> [Step; 12]
 {
     let n = count as usize;
     let mut steps = [NO_STEP; 12];
-    let mut i = 0;
-    while i < n {
+    for i in 0..n {
         let step = step_at(input, (3 + 7 * i) as u32);
         steps[i] = step;
-        i += 1;
     }
     steps
 }
@@ -206,11 +204,9 @@ fn blocks_at(input: &[u8], place: usize, count: u8) -> [Block; 8]
 {
     let n = count as usize;
     let mut blocks = [NO_BLOCK; 8];
-    let mut i = 0;
-    while i < n {
+    for i in 0..n {
         let block = block_at(input, (place + 3 * i) as u32);
         blocks[i] = block;
-        i += 1;
     }
     blocks
 }
@@ -272,12 +268,12 @@ fn metric_number(metric: Metric) -> u32
     }
 }
 
-pub fn band_word(found: BandOption, place: u32) -> u32
+pub fn band_word(found: Option<Band>, place: u32) -> u32
     ensures { result ≡ band_word found place }
 {
     match found {
-        BandOption::None => 0,
-        BandOption::Some(band) => {
+        None => 0,
+        Some(band) => {
             let metric = band.metric;
             four_words(
                 1,
@@ -290,21 +286,19 @@ pub fn band_word(found: BandOption, place: u32) -> u32
     }
 }
 
-fn ramp_word(found: RampOption, place: u32) -> u32
+fn ramp_word(found: Option<Ramp>, place: u32) -> u32
     ensures { result ≡ ramp_word found place }
 {
-    match found {
-        RampOption::None => 0,
-        RampOption::Some(ramp) => {
-            four_words(
-                1,
-                ramp.start as u32,
-                ramp.step as u32,
-                ramp.every as u32,
-                place,
-            )
-        }
-    }
+    let Some(ramp) = found else {
+        return 0;
+    };
+    four_words(
+        1,
+        ramp.start as u32,
+        ramp.step as u32,
+        ramp.every as u32,
+        place,
+    )
 }
 
 fn stage_word(ramp: Ramp, elapsed: u32, stage: u32, place: u32) -> u32
@@ -330,24 +324,19 @@ fn name_word(name: Name, place: u32) -> u32
 }
 
 // 0, or the number of the question that refuses the workout.
-pub fn refused_number(answer: Answer) -> u32
+pub fn refused_number(answer: Result<(), Refusal>) -> u32
     ensures { result ≡ answer_number answer }
 {
-    answer.number()
+    refusal::answer_number(answer)
 }
 
-pub fn played_word(option: PlayedOption) -> u32
+pub fn played_word(option: Option<Played>) -> u32
     ensures { result ≡ played_word option }
 {
-    let played = option.played;
-    if option.found {
-        16777216
-            + 65536 * (played.index as u32)
-            + 256 * (played.repetition as u32)
-            + (played.of as u32)
-    } else {
-        0
-    }
+    let Some(played) = option else {
+        return 0;
+    };
+    16777216 + 65536 * (played.index as u32) + 256 * (played.repetition as u32) + (played.of as u32)
 }
 
 pub fn order_word(workout: Workout, place: u32) -> u32

@@ -29,10 +29,8 @@ fn join(check: u32, kinds: &[u8], values: &[u16], events: usize) -> u32
 {
     let n = least(events, least(kinds.len(), values.len()));
     let mut joined = (check as u64) % 1000000007;
-    let mut i: usize = 0;
-    while i < n {
+    for i in 0..n {
         joined = join_one(joined, kinds[i], values[i]);
-        i += 1;
     }
     joined as u32
 }
@@ -156,10 +154,8 @@ pub fn compare_cut(file: &[u8], calls: &[u8], answer: &mut [u32])
 {
     let n = least(answer.len(), 137000);
     let mut seen = begin(file, calls);
-    let mut i = 0;
-    while i < n {
+    for i in 0..n {
         answer[i] = cut_word(seen, (i % 13) as u32);
         seen = next_cut(calls, seen, i);
-        i += 1;
     }
 }

@@ -1,12 +1,11 @@
 -- A player with one field set, by the numbers of tests/oracle/fields.rs. In each group a number past the last is the last; values
 -- are cut to the field's width.
-use Rattle.std.specs.Prelude.{not, cond, List, [], ◌∷◌, ℕ, ◌/◌, ◌%◌, eqb, ltb, get_or, set}
+use Rattle.std.specs.Prelude.{not, cond, List, [], ◌∷◌, ℕ, ◌/◌, ◌%◌, eqb, ltb, get_or, set, Some}
 use Rattle.model.specs.declared.Intensity.TheVariants.{Warmup}
 use Rattle.model.specs.declared.Length.TheVariants.{Time, Distance, Open}
 use Rattle.model.specs.declared.Target.TheVariants.{HeartZone}
 use Rattle.model.specs.declared.Workout.{Workout}
 use Rattle.power.specs.declared.Power3s.{Power3s}
-use Rattle.power.specs.declared.ReadingOption.TheVariants.{Some}
 use Rattle.readings.specs.declared.Readings.{Readings}
 use Rattle.state.specs.declared.Core.{Core}
 use Rattle.state.specs.declared.Lap.{Lap}

@@ -6,7 +6,7 @@ ghost use Rattle.std.specs.Prelude.{◌≡◌, ◌%◌};
 ghost use Rattle.compare_fields.specs.Fields.{set_number, set_lap, set_measured, set_summary, set_on, set_place, set_readings, set_core, set_workout, set_field};
 
 use model::{Intensity, Length, Target, Workout};
-use power::{Power3s, ReadingOption};
+use power::Power3s;
 use readings::Readings;
 use state::{Core, Lap, Measured, Mm, Ms, Player, Ring, StepNow, Summary};
 
@@ -116,7 +116,7 @@ fn set_measured(measured: Measured, at: u32, value: u64) -> Measured
         _ => {
             let ring = measured.ring;
             let best = Ring {
-                best_minute: ReadingOption::Some(low16(value)),
+                best_minute: Some(low16(value)),
                 ..ring
             };
             q.ring = best;
@@ -167,7 +167,7 @@ fn set_summary(summary: Summary, at: u32, value: u64) -> Summary
             q
         }
         _ => Summary {
-            ftp: ReadingOption::Some(low16(value)),
+            ftp: Some(low16(value)),
             ..summary
         },
     }
@@ -234,7 +234,7 @@ fn set_readings(readings: Readings, at: u32, value: u64) -> Readings
         0 => {
             let last = readings.last_sample;
             let sample = readings::Sample {
-                cadence_tenths: ReadingOption::Some(low16(value)),
+                cadence_tenths: Some(low16(value)),
                 ..last
             };
             q.last_sample = sample;
@@ -248,7 +248,7 @@ fn set_readings(readings: Readings, at: u32, value: u64) -> Readings
         2 => {
             let last = readings.last_sample;
             let sample = readings::Sample {
-                heart_bpm: ReadingOption::Some(low16(value)),
+                heart_bpm: Some(low16(value)),
                 ..last
             };
             q.last_sample = sample;
@@ -257,7 +257,7 @@ fn set_readings(readings: Readings, at: u32, value: u64) -> Readings
         3 => {
             let last = readings.last_sample;
             let sample = readings::Sample {
-                power_watts: ReadingOption::Some(low16(value)),
+                power_watts: Some(low16(value)),
                 ..last
             };
             q.last_sample = sample;

@@ -1,19 +1,18 @@
 -- The words of the answers on workout files, from the definitions of reading and writing; tests/oracle/questions.rs has the layout.
-use Rattle.std.specs.Prelude.{cond, List, [], ◌∷◌, ◌++◌, map, ℕ, ◌+◌, ◌-◌, ◌*◌, ◌/◌, ◌%◌, min, ltb, eqb, get_or, drop, replicate}
+use Rattle.std.specs.Prelude.{cond, List, [], ◌∷◌, ◌++◌, map, ℕ, ◌+◌, ◌-◌, ◌*◌, ◌/◌, ◌%◌, min, ltb, eqb, get_or, drop, replicate, Err, Ok, Result}
 use Rattle.common.specs.Lists.{range}
 use Rattle.compare.specs.Answers.{order_word, answer_word}
 use Rattle.compare.specs.Input.{word_at}
 use Rattle.decode.specs.Decode.{decode_of}
 use Rattle.decode.specs.declared.Decoded.{Decoded}
 use Rattle.encode.specs.Encode.{test_kind, encoded_of, output_of}
-use Rattle.encode.specs.declared.Encoded.{Encoded}
-use Rattle.encode.specs.declared.Encoded.TheVariants as encoded
 use Rattle.model.specs.Workout.{no_step, no_block}
 use Rattle.model.specs.declared.Block.{Block}
 use Rattle.model.specs.declared.Step.{Step}
 use Rattle.model.specs.declared.Workout.{Workout}
 use Rattle.names.specs.declared.Name.{Name}
 use Rattle.refusal.specs.Number.{question_number, answer_number}
+use Rattle.refusal.specs.declared.Refusal.{Refusal}
 use Rattle.steps.specs.Bytes.{intensity_kind, length_kind, length_value, target_kind, first_value, second_value, third_value}
 
 -- a name: its length, then its 20 bytes, four to a word
@@ -69,9 +68,9 @@ abbrev pub filled : (ℕ → ℕ) → List ℕ → ℕ → List ℕ
 filled word answer n = map word (range 0 n) ++ drop n answer
 
 -- the length written, in 32 bits, or the number of the question that refuses
-abbrev pub written_number : Encoded → ℕ
-written_number (encoded.Written size) = size % 4294967296
-written_number (encoded.Refused refusal) = question_number refusal
+abbrev pub written_number : Result ℕ Refusal → ℕ
+written_number (Ok size) = size % 4294967296
+written_number (Err refusal) = question_number refusal
 
 -- what was read, written over 484 bytes of 165: the answer, then the bytes, four to a word
 abbrev pub lent : List ℕ

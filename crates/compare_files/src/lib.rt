@@ -11,9 +11,10 @@ ghost use Rattle.compare_files.specs.Files.{text_word, head_word, step_word, blo
 use common::least;
 use compare::{compare_answer, order_word, refused_number, word_at};
 use decode::{Decoded, decode};
-use encode::{Encoded, encode, test_kind};
+use encode::{encode, test_kind};
 use model::{Block, Step, Workout};
 use names::Name;
+use refusal::Refusal;
 
 // A name's length, then its 20 bytes, four to a word.
 pub fn text_word(name: Name, place: u32) -> u32
@@ -111,20 +112,18 @@ pub fn compare_file(file: &[u8], answer: &mut [u32])
 {
     let read = decode(file);
     let n = least(answer.len(), 280);
-    let mut i = 0;
-    while i < n {
+    for i in 0..n {
         answer[i] = file_word(read, i as u32);
-        i += 1;
     }
 }
 
 // The length written, or the number of the question that refuses: no file is as short as that.
-fn written_number(encoded: Encoded) -> u32
+fn written_number(encoded: Result<usize, Refusal>) -> u32
     ensures { result ≡ written_number encoded }
 {
     match encoded {
-        Encoded::Written(size) => (size % 4294967296) as u32,
-        Encoded::Refused(refusal) => refusal.number(),
+        Ok(size) => (size % 4294967296) as u32,
+        Err(refusal) => refusal.number(),
     }
 }
 

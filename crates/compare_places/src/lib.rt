@@ -101,10 +101,8 @@ fn after(file: &[u8], calls: &[u8], count: u32, exact: bool) -> Player
 {
     let seen = begin(file, calls);
     let mut player = seen.player;
-    let mut i = 0;
-    while i < count {
+    for i in 0..count {
         player = play(player, call_at(calls, i), exact);
-        i += 1;
     }
     player
 }
@@ -128,10 +126,8 @@ fn fill(told: PlacesRead, seen: Seen, answer: &mut [u32])
     ensures { answer.new ≡ filled (place_word told seen) answer.old (min (length answer.old) 82) }
 {
     let n = least(answer.len(), 82);
-    let mut i = 0;
-    while i < n {
+    for i in 0..n {
         answer[i] = place_word(told, seen, i as u32);
-        i += 1;
     }
 }
 

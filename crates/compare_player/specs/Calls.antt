@@ -1,6 +1,6 @@
 -- A list of calls, what each of them gives by the definitions of crates `player` and `start`, and the words after each;
 -- tests/oracle/played.rs has the layout.
-use Rattle.std.specs.Prelude.{false, cond, List, [], ◌∷◌, ℕ, zero, suc, ◌+◌, ◌-◌, ◌*◌, ◌/◌, ◌%◌, min, eqb, ltb, leb, length, get_or, replicate}
+use Rattle.std.specs.Prelude.{false, cond, List, [], ◌∷◌, ℕ, zero, suc, ◌+◌, ◌-◌, ◌*◌, ◌/◌, ◌%◌, min, eqb, ltb, leb, length, get_or, replicate, None, Option, Some}
 use Rattle.compare.specs.Input.{word_at, low16}
 use Rattle.compare_fields.specs.Fields.{set_field}
 use Rattle.compare_files.specs.Files.{question_word}
@@ -10,8 +10,6 @@ use Rattle.decode.specs.Decode.{decode_of}
 use Rattle.events.specs.Events.{Event, kinds_of, values_of}
 use Rattle.le.specs.Le.{part, written}
 use Rattle.player.specs.Calls.{read_of, ride_of, add_of, skip_of, extend_with, extend_of}
-use Rattle.power.specs.declared.ReadingOption.TheVariants.{None, Some}
-use Rattle.power.specs.declared.ReadingOption.{ReadingOption}
 use Rattle.readings.specs.declared.Sample.{Sample}
 use Rattle.refusal.specs.Number.{answer_number}
 use Rattle.start.specs.Start.{new_of}
@@ -53,7 +51,7 @@ call_at calls k =
     }
 
 -- 0 is an absent reading, any other word one more than the reading
-abbrev pub reading_from : ℕ → ReadingOption
+abbrev pub reading_from : ℕ → Option ℕ
 reading_from word = cond (eqb word 0) None (Some (low16 (word - 1)))
 
 abbrev pub sample_of : Call → Sample

@@ -13,7 +13,6 @@ use compare_files::question_word;
 use compare_reports::{Given, Reported, report, seen_word};
 use decode::decode;
 use outcomes::{Extended, Update};
-use power::ReadingOption;
 use readings::Sample;
 use start::new;
 use state::{Mm, Ms, Player};
@@ -60,10 +59,8 @@ fn check_of(kinds: &[u8; 193], values: &[u16; 193], events: usize) -> u32
 {
     let n = least(events, 193);
     let mut check: u64 = 7;
-    let mut i: usize = 0;
-    while i < n {
+    for i in 0..n {
         check = mix(check, kinds[i], values[i]);
-        i += 1;
     }
     check as u32
 }
@@ -89,13 +86,13 @@ pub fn call_at(calls: &[u8], k: u32) -> Call
 }
 
 // 0 is an absent reading, any other word one more than the reading.
-fn reading_from(word: u32) -> ReadingOption
+fn reading_from(word: u32) -> Option<u16>
     ensures { result ≡ reading_from word }
 {
     if word == 0 {
-        return ReadingOption::None;
+        return None;
     }
-    ReadingOption::Some(((word - 1) % 65536) as u16)
+    Some(((word - 1) % 65536) as u16)
 }
 
 pub fn sample_of(call: Call) -> Sample
@@ -292,13 +289,11 @@ pub fn compare_player(file: &[u8], calls: &[u8], answer: &mut [u32])
 {
     let n = least(answer.len(), 1000000);
     let mut seen = begin(file, calls);
-    let mut i = 0;
-    while i < n {
+    for i in 0..n {
         let given = seen.given;
         let reported = seen.reported;
         answer[i] = seen_word(given, reported, (i % 80) as u32);
         seen = next_seen(calls, seen, i);
-        i += 1;
     }
 }
 
@@ -308,10 +303,8 @@ pub fn seen_at(file: &[u8], calls: &[u8], k: u32) -> Seen
     ensures { result ≡ seen_after file.now calls.now k }
 {
     let mut seen = begin(file, calls);
-    let mut i = 0;
-    while i < k {
+    for i in 0..k {
         seen = take_turn(calls, i, seen);
-        i += 1;
     }
     seen
 }

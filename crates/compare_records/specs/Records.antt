@@ -1,16 +1,12 @@
 -- The words of the answers on ride records, from the definition of reading; tests/oracle/compare_records.rs has the layout.
-use Rattle.std.specs.Prelude.{cond, not, List, [], ◌∷◌, ℕ, ◌+◌, ◌-◌, ◌*◌, ◌/◌, ◌%◌, min, eqb, ltb, length, get_or}
+use Rattle.std.specs.Prelude.{cond, not, List, [], ◌∷◌, ℕ, ◌+◌, ◌-◌, ◌*◌, ◌/◌, ◌%◌, min, eqb, ltb, length, get_or, None, Option, Some}
 use Rattle.le.specs.Le.{part}
 use Rattle.refusal.specs.Number.{answer_number}
 use Rattle.names.specs.Names.{name_from}
 use Rattle.model.specs.declared.Test.{Test}
 use Rattle.model.specs.declared.Test.TheVariants as tests
 use Rattle.encode.specs.Encode.{test_kind}
-use Rattle.power.specs.declared.ReadingOption.{ReadingOption}
-use Rattle.power.specs.declared.ReadingOption.TheVariants as reading
 use Rattle.state.specs.declared.Summary.{Summary}
-use Rattle.history.specs.declared.StartOption.{StartOption}
-use Rattle.history.specs.declared.StartOption.TheVariants as start
 use Rattle.history.specs.declared.Record.{Record}
 use Rattle.history.specs.declared.RecordRead.{RecordRead}
 use Rattle.history.specs.Record.{start_at}
@@ -22,14 +18,14 @@ unfoldable pub half_word : ℕ → ℕ → ℕ
 half_word n place = get_or (n % 4294967296 ∷ []) place (n / 4294967296)
 
 -- 1 and the start, or 0
-unfoldable pub start_word : StartOption → ℕ → ℕ
-start_word start.None place = 0
-start_word (start.Some ms) place = get_or (1 ∷ []) place (half_word ms (place - 1))
+unfoldable pub start_word : Option ℕ → ℕ → ℕ
+start_word None place = 0
+start_word (Some ms) place = get_or (1 ∷ []) place (half_word ms (place - 1))
 
 -- 1 and the watts, or 0
-unfoldable pub ftp_word : ReadingOption → ℕ → ℕ
-ftp_word reading.None place = 0
-ftp_word (reading.Some watts) place = get_or (1 ∷ []) place watts
+unfoldable pub ftp_word : Option ℕ → ℕ → ℕ
+ftp_word None place = 0
+ftp_word (Some watts) place = get_or (1 ∷ []) place watts
 
 -- 7 words: refusal, journal, ride id, test, start
 abbrev pub head_facts : RecordRead → List ℕ
@@ -68,8 +64,8 @@ abbrev pub pair_at : List ℕ → ℕ → ℕ
 pair_at s place = word_at s place + 4294967296 * word_at s (place + 1)
 
 -- 0 for none, else one more than the watts
-unfoldable pub ftp_by : ℕ → ReadingOption
-ftp_by word = cond (eqb word 0) reading.None (reading.Some ((word - 1) % 65536))
+unfoldable pub ftp_by : ℕ → Option ℕ
+ftp_by word = cond (eqb word 0) None (Some ((word - 1) % 65536))
 
 unfoldable pub test_by : ℕ → Test
 test_by word = get_or (tests.None ∷ tests.Twenty ∷ tests.Ramp ∷ []) word tests.None

@@ -12,10 +12,9 @@ use common::least;
 use compare::{refused_number, word_at};
 use compare_files::text_word;
 use encode::test_kind;
-use history::{Record, RecordRead, StartOption, decode, start_of};
+use history::{Record, RecordRead, decode};
 use model::Test;
 use names::Name;
-use power::ReadingOption;
 use state::Summary;
 
 // The lower 32 bits at place 0, the upper ones behind them.
@@ -35,12 +34,12 @@ fn yes_word(yes: bool) -> u32
 }
 
 // 1 and the start, or 0.
-fn start_word(start: StartOption, place: u32) -> u32
+fn start_word(start: Option<u64>, place: u32) -> u32
     ensures { result ≡ start_word start place }
 {
     match start {
-        StartOption::None => 0,
-        StartOption::Some(ms) => match place {
+        None => 0,
+        Some(ms) => match place {
             0 => 1,
             _ => half_word(ms, place - 1),
         },
@@ -48,12 +47,12 @@ fn start_word(start: StartOption, place: u32) -> u32
 }
 
 // 1 and the watts, or 0.
-fn ftp_word(ftp: ReadingOption, place: u32) -> u32
+fn ftp_word(ftp: Option<u16>, place: u32) -> u32
     ensures { result ≡ ftp_word ftp place }
 {
     match ftp {
-        ReadingOption::None => 0,
-        ReadingOption::Some(watts) => match place {
+        None => 0,
+        Some(watts) => match place {
             0 => 1,
             _ => watts as u32,
         },
@@ -153,13 +152,13 @@ fn pair_at(input: &[u8], place: u32) -> u64
     (word_at(input, place) as u64) + 4294967296 * (word_at(input, place + 1) as u64)
 }
 
-fn ftp_by(word: u32) -> ReadingOption
+fn ftp_by(word: u32) -> Option<u16>
     ensures { result ≡ ftp_by word }
 {
     if word == 0 {
-        return ReadingOption::None;
+        return None;
     }
-    ReadingOption::Some(((word - 1) % 65536) as u16)
+    Some(((word - 1) % 65536) as u16)
 }
 
 fn test_by(word: u32) -> Test
@@ -198,7 +197,7 @@ fn made(input: &[u8]) -> Record
     Record {
         journal: (word_at(input, 0) % 256) as u8,
         ride_id: word_at(input, 1),
-        started_utc_ms: start_of(word_at(input, 2) != 0, pair_at(input, 3)),
+        started_utc_ms: (word_at(input, 2) != 0).then_some(pair_at(input, 3)),
         name: Name::from_bytes(&input[from..]),
         test: test_by(word_at(input, 5)),
         summary: made_summary(input),

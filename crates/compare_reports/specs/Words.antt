@@ -1,12 +1,10 @@
 -- The words of a call and of the reports after it, from the definitions of crate `reports`; tests/oracle/played.rs has the layout.
-use Rattle.std.specs.Prelude.{true, cond, List, [], ◌∷◌, ℕ, ◌+◌, ◌-◌, ◌/◌, ◌%◌, get_or}
+use Rattle.std.specs.Prelude.{true, cond, List, [], ◌∷◌, ℕ, ◌+◌, ◌-◌, ◌/◌, ◌%◌, get_or, None, Option, Some}
 use Rattle.compare.specs.Answers.{band_word, played_word}
 use Rattle.compare_files.specs.Files.{step_word}
 use Rattle.readings.specs.declared.Compliance.TheVariants.{Under, In, Over}
 use Rattle.readings.specs.declared.ComplianceOption.{ComplianceOption}
 use Rattle.readings.specs.declared.ComplianceOption.TheVariants as how
-use Rattle.power.specs.declared.ReadingOption.{ReadingOption}
-use Rattle.power.specs.declared.ReadingOption.TheVariants as readings
 use Rattle.refusal.specs.Number.{answer_number}
 use Rattle.reports.specs.Reports.{summary_of, remaining_secs, distance_of, until_of, now_of}
 use Rattle.reports.specs.declared.NowRead.{NowRead}
@@ -14,26 +12,23 @@ use Rattle.reports.specs.declared.SummaryRead.{SummaryRead}
 use Rattle.screen.specs.declared.Left.{Left}
 use Rattle.screen.specs.declared.Left.TheVariants.{Secs, Metres, Open}
 use Rattle.screen.specs.declared.Now.{Now}
-use Rattle.screen.specs.declared.SecsOption.{SecsOption}
-use Rattle.screen.specs.declared.SecsOption.TheVariants as seconds
 use Rattle.screen.specs.declared.TestReadout.{TestReadout}
 use Rattle.screen.specs.declared.TestReadout.TheVariants as readouts
 use Rattle.state.specs.State.{in_target_pct}
-use Rattle.state.specs.declared.PctOption.{PctOption}
-use Rattle.state.specs.declared.PctOption.TheVariants as percents
 use Rattle.state.specs.declared.Player.{Player}
 use Rattle.zones.specs.declared.TrainingProfile.{TrainingProfile}
 use Rattle.compare_reports.specs.declared.Given.{Given}
 use Rattle.compare_reports.specs.declared.Reported.{Reported}
+use Rattle.order.specs.Order.{played_in}
 
 -- 0 for none, else one more
-abbrev pub reading_word : ReadingOption → ℕ
-reading_word readings.None = 0
-reading_word (readings.Some value) = value + 1
+abbrev pub reading_word : Option ℕ → ℕ
+reading_word None = 0
+reading_word (Some value) = value + 1
 
-abbrev pub pct_word : PctOption → ℕ
-pct_word percents.None = 0
-pct_word (percents.Some value) = value + 1
+abbrev pub pct_word : Option ℕ → ℕ
+pct_word None = 0
+pct_word (Some value) = value + 1
 
 -- the summary, numbers in 32 bits, and `in_target_pct` of it
 abbrev pub summary_facts : SummaryRead → List ℕ
@@ -60,13 +55,13 @@ given_facts given = given.number ∷ given.events ∷ given.parts ∷ given.chec
 unfoldable pub given_word : Given → SummaryRead → ℕ → ℕ
 given_word given read place = get_or (given_facts given) place (summary_word read (place - 5))
 
-abbrev pub has_secs : SecsOption → ℕ
-has_secs seconds.None = 0
-has_secs (seconds.Some value) = 1
+abbrev pub has_secs : Option ℕ → ℕ
+has_secs None = 0
+has_secs (Some value) = 1
 
-abbrev pub secs_value : SecsOption → ℕ
-secs_value seconds.None = 0
-secs_value (seconds.Some value) = value
+abbrev pub secs_value : Option ℕ → ℕ
+secs_value None = 0
+secs_value (Some value) = value
 
 -- the summary's unread, `remaining_secs`, `distance_step`, `until_end`, then the band on screen
 abbrev pub amount_facts : Reported → List ℕ
@@ -121,7 +116,7 @@ shown_facts now =
     ∷ now.progress
     ∷ readout_kind now.test
     ∷ readout_value now.test
-    ∷ played_word (record { found = true; played = now.played })
+    ∷ played_word (Some now.played)
     ∷ played_word now.next
     ∷ []
 
@@ -164,4 +159,4 @@ seen_words given reported at =
 -- and the step after it
 unfoldable pub seen_word : Given → Reported → ℕ → ℕ
 seen_word given reported place =
-    get_or (seen_words given reported (place % 16)) (place / 16) (step_word reported.now.now.next.played.step (place % 16))
+    get_or (seen_words given reported (place % 16)) (place / 16) (step_word (played_in reported.now.now.next).step (place % 16))

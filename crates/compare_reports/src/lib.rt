@@ -7,12 +7,11 @@ ghost use Rattle.compare_reports.specs.Words.{reading_word, pct_word, summary_wo
 
 use compare::{band_word, played_word, refused_number};
 use compare_files::step_word;
-use order::PlayedOption;
-use power::ReadingOption;
+use order::NO_PLAYED;
 use readings::{Compliance, ComplianceOption};
 use reports::{DistanceRead, NowRead, PartRead, RemainingRead, SummaryRead};
-use screen::{Left, Now, SecsOption, TestReadout};
-use state::{Mm, Ms, PctOption, Player};
+use screen::{Left, Now, TestReadout};
+use state::{Mm, Ms, Player};
 use zones::TrainingProfile;
 
 // What a call gave but for the player: the number of its refusal, how many events and parts, a check word of the events, and
@@ -49,21 +48,21 @@ fn low32(n: u64) -> u32
 }
 
 // 0 for none, else one more than the reading.
-fn reading_word(reading: ReadingOption) -> u32
+fn reading_word(reading: Option<u16>) -> u32
     ensures { result ≡ reading_word reading }
 {
     match reading {
-        ReadingOption::None => 0,
-        ReadingOption::Some(value) => (value as u32) + 1,
+        None => 0,
+        Some(value) => (value as u32) + 1,
     }
 }
 
-fn pct_word(pct: PctOption) -> u32
+fn pct_word(pct: Option<u8>) -> u32
     ensures { result ≡ pct_word pct }
 {
     match pct {
-        PctOption::None => 0,
-        PctOption::Some(value) => (value as u32) + 1,
+        None => 0,
+        Some(value) => (value as u32) + 1,
     }
 }
 
@@ -102,21 +101,21 @@ fn given_word(given: Given, read: SummaryRead, place: u32) -> u32
     }
 }
 
-fn has_secs(secs: SecsOption) -> u32
+fn has_secs(secs: Option<u32>) -> u32
     ensures { result ≡ has_secs secs }
 {
     match secs {
-        SecsOption::None => 0,
-        SecsOption::Some(_) => 1,
+        None => 0,
+        Some(_) => 1,
     }
 }
 
-fn secs_value(secs: SecsOption) -> u32
+fn secs_value(secs: Option<u32>) -> u32
     ensures { result ≡ secs_value secs }
 {
     match secs {
-        SecsOption::None => 0,
-        SecsOption::Some(value) => value,
+        None => 0,
+        Some(value) => value,
     }
 }
 
@@ -220,10 +219,7 @@ fn shown_word(shown: Now, place: u32) -> u32
         2 => shown.progress as u32,
         3 => readout_kind(test),
         4 => readout_value(test),
-        5 => played_word(PlayedOption {
-            found: true,
-            played,
-        }),
+        5 => played_word(Some(played)),
         6 => played_word(next),
         _ => 0,
     }
@@ -271,8 +267,7 @@ pub fn seen_word(given: Given, reported: Reported, place: u32) -> u32
     let shown = read.now;
     let on = shown.played;
     let on_step = on.step;
-    let found = shown.next;
-    let next = found.played;
+    let next = shown.next.unwrap_or(NO_PLAYED);
     let next_step = next.step;
     let at = place % 16;
     match place / 16 {

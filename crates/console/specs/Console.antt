@@ -1,13 +1,11 @@
 -- Document 01: what the C call takes and gives as numbers.
-use Rattle.std.specs.Prelude.{Bool, not, ℕ, eqb}
+use Rattle.std.specs.Prelude.{Bool, not, ℕ, eqb, None, Option, Some}
 use Rattle.refusal.specs.Number.{answer_number}
 use Rattle.sheet.specs.declared.ActAnswer.{ActAnswer}
-use Rattle.sheet.specs.declared.ActOption.{ActOption}
-use Rattle.sheet.specs.declared.ActOption.TheVariants.{None, Some}
 use Rattle.console.specs.declared.Replayed.{Replayed}
 
 -- "and, where it names one, its act", told apart from act 0 by a number that no act has
-abbrev pub act_number : ActOption → ℕ
+abbrev pub act_number : Option ℕ → ℕ
 act_number None = 4294967295
 act_number (Some act) = act
 

@@ -7,7 +7,8 @@ ghost use Rattle.std.specs.Prelude.{◌≡◌, length};
 ghost use Rattle.replay.specs.Replay.{replay_answer, replay_output};
 ghost use Rattle.console.specs.Console.{act_number, replayed_of, is_yes};
 
-use sheet::{ActAnswer, ActOption};
+use refusal::answer_number;
+use sheet::ActAnswer;
 
 // Where a refusal names no act.
 pub const NO_ACT: u32 = 4294967295;
@@ -20,12 +21,12 @@ pub struct Replayed {
     pub act: u32,
 }
 
-fn act_number(act: ActOption) -> u32
+fn act_number(act: Option<u16>) -> u32
     ensures { result ≡ act_number act }
 {
     match act {
-        ActOption::None => NO_ACT,
-        ActOption::Some(i) => i as u32,
+        None => NO_ACT,
+        Some(i) => i as u32,
     }
 }
 
@@ -35,7 +36,7 @@ fn in_numbers(outcome: ActAnswer) -> Replayed
     let answer = outcome.answer;
     let act = outcome.act;
     Replayed {
-        refusal: answer.number(),
+        refusal: answer_number(answer),
         act: act_number(act),
     }
 }

@@ -1,4 +1,5 @@
 -- What the cursor's calls say of the list of bytes behind its place, and how a name is read from there.
+use Rattle.std.specs.Prelude.{Err, None, Ok, Result, Some}
 use mathlib.Core.Path.{◌≡◌, refl, sym, ap, ap₂, ◌∙◌}
 use mathlib.Core.Bool.{Bool, true, false, cond}
 use mathlib.Core.List.{List}
@@ -12,20 +13,15 @@ use borrow.Author.Tests.{le-leb, lt-leb, leb-true, leb-false, ltb-true, ltb-fals
 use Rattle.common.specs.Lists.{all, padded}
 use Rattle.refusal.specs.declared.Refusal.TheVariants as refusals
 use Rattle.refusal.specs.declared.Refusal.{Refusal}
-use Rattle.refusal.specs.declared.Answer.TheVariants.{Accepted, Refused}
 use Rattle.names.specs.declared.Name.{Name}
 use Rattle.names.specs.Names.{allowed}
-use Rattle.cursor.specs.Reading.{Read, got, refused, behind, enough, and_then, take_bytes, read_byte}
-use Rattle.cursor.specs.Names.{name_of, read_text, read_name, taken_by, taken_at, byte_by, byte_at, name_by, name_at}
+use Rattle.cursor.specs.Reading.{Read, got, refused, read_by, behind, enough, and_then, take_bytes, read_byte}
+use Rattle.cursor.specs.Names.{name_of, read_text, read_name, taken_by, taken_at, byte_by, byte_at, name_at}
 use Rattle.cursor.specs.declared.Cursor.{Cursor}
-use Rattle.cursor.specs.declared.Taken.TheVariants as taken
-use Rattle.cursor.specs.declared.NameRead.{NameRead}
-use Rattle.cursor.specs.declared.NextByte.TheVariants as next
-use Rattle.cursor.proofs.Answers.{Given, given, refusal}
 
 -- a name that was read, and the cursor past it
-abbrev pub read_as : List ℕ → ℕ → ℕ → NameRead
-read_as bytes len at = record { answer = Accepted; name = record { bytes = bytes; len = len }; next = record { at = at } }
+abbrev pub read_as : List ℕ → ℕ → ℕ → Result (Name × Cursor) Refusal
+read_as bytes len at = Ok (record { bytes = bytes; len = len }, record { at = at })
 
 pub byte-here : (l : List ℕ) (at : ℕ) → at < length l → read_byte (drop at l) ≡ got (get_or l at 0) 1
 unfolding read_byte
@@ -66,27 +62,27 @@ pub record TakenAt (s : List ℕ) (at n from : ℕ) (c : Cursor) : Type 0 where
   pub after : c.at ≡ at + n
 
 module _ (s : List ℕ) (at : ℕ) where
-  pub next_here : at < length s → byte_at s at ≡ next.Byte (get_or s at 0) (record { at = at + 1 })
+  pub next_here : at < length s → byte_at s at ≡ Some (get_or s at 0, record { at = at + 1 })
   unfolding byte_at
   next_here h = ap (byte_by at) (byte-here s at h)
 
-  pub next-end : length s ≤ at → byte_at s at ≡ next.End
+  pub next-end : length s ≤ at → byte_at s at ≡ None
   unfolding byte_at
   next-end h = ap (byte_by at) (byte-end s at h)
 
-  pub byte-given : (b : ℕ) (c : Cursor) → byte_at s at ≡ next.Byte b c → ByteAt s at b c
+  pub byte-given : (b : ℕ) (c : Cursor) → byte_at s at ≡ Some (b, c) → ByteAt s at b c
   byte-given b c e = go (ltb at (length s)) refl
     where
       go : (t : Bool) → ltb at (length s) ≡ t → ByteAt s at b c
       go true t =
           let within : at < length s = ltb-true at (length s) t in
           let f = next_here within in
-          let value : b ≡ get_or s at 0 = cc in
-          let after : c ≡ record { at = at + 1 } = cc in
-          record { reads = byte-here s at within ∙ ap (λ (x : ℕ). got x 1) (sym value); value = value; within = within; after = ap (λ (k : Cursor). k.at) after }
+          let pair : (b, c) ≡ (get_or s at 0, record { at = at + 1 }) = cc in
+          let value : b ≡ get_or s at 0 = ap (λ (p : ℕ × Cursor). p.0) pair in
+          record { reads = byte-here s at within ∙ ap (λ (x : ℕ). got x 1) (sym value); value = value; within = within; after = ap (λ (p : ℕ × Cursor). p.1.at) pair }
       go false t = let f = next-end (ltb-false at (length s) t) in let z : ◌≡◌ {A = ℕ} 0 1 = cc in absurd (omega arith)
 
-  pub byte-ended : byte_at s at ≡ next.End → read_byte (drop at s) ≡ refused refusals.Length
+  pub byte-ended : byte_at s at ≡ None → read_byte (drop at s) ≡ refused refusals.Length
   byte-ended e = go (ltb at (length s)) refl
     where
       go : (t : Bool) → ltb at (length s) ≡ t → read_byte (drop at s) ≡ refused refusals.Length
@@ -94,34 +90,33 @@ module _ (s : List ℕ) (at : ℕ) where
       go false t = byte-end s at (ltb-false at (length s) t)
 
   module _ (n : ℕ) where
-    pub taken_here : n ≤ length (drop at s) → taken_at s at n ≡ taken.Bytes at (record { at = at + n })
+    pub taken_here : n ≤ length (drop at s) → taken_at s at n ≡ Some (at, record { at = at + n })
     unfolding taken_at
     taken_here h = ap (taken_by at) (take-here n (drop at s) h)
 
-    pub taken-end : length (drop at s) < n → taken_at s at n ≡ taken.End
+    pub taken-end : length (drop at s) < n → taken_at s at n ≡ None
     unfolding taken_at
     taken-end h = ap (taken_by at) (take-end n (drop at s) h)
 
-    pub taken-given : (from : ℕ) (c : Cursor) → taken_at s at n ≡ taken.Bytes from c → TakenAt s at n from c
+    pub taken-given : (from : ℕ) (c : Cursor) → taken_at s at n ≡ Some (from, c) → TakenAt s at n from c
     taken-given from c e = go (leb n (length (drop at s))) refl
       where
         go : (t : Bool) → leb n (length (drop at s)) ≡ t → TakenAt s at n from c
         go true t =
             let within : n ≤ length (drop at s) = leb-true n (length (drop at s)) t in
             let f = taken_here within in
-            let place : from ≡ at = cc in
-            let after : c ≡ record { at = at + n } = cc in
-            record { reads = take-here n (drop at s) within; place = place; within = within; after = ap (λ (k : Cursor). k.at) after }
+            let pair : (from, c) ≡ (at, record { at = at + n }) = cc in
+            record { reads = take-here n (drop at s) within; place = ap (λ (p : ℕ × Cursor). p.0) pair; within = within; after = ap (λ (p : ℕ × Cursor). p.1.at) pair }
         go false t = let f = taken-end (leb-false n (length (drop at s)) t) in let z : ◌≡◌ {A = ℕ} 0 1 = cc in absurd (omega arith)
 
-    pub taken-short : taken_at s at n ≡ taken.End → length (drop at s) < n
+    pub taken-short : taken_at s at n ≡ None → length (drop at s) < n
     taken-short e = go (leb n (length (drop at s))) refl
       where
         go : (t : Bool) → leb n (length (drop at s)) ≡ t → length (drop at s) < n
         go true t = let f = taken_here (leb-true n (length (drop at s)) t) in let z : ◌≡◌ {A = ℕ} 0 1 = cc in absurd (omega arith)
         go false t = leb-false n (length (drop at s)) t
 
-    pub taken-ended : taken_at s at n ≡ taken.End → take_bytes n (drop at s) ≡ refused refusals.Length
+    pub taken-ended : taken_at s at n ≡ None → take_bytes n (drop at s) ≡ refused refusals.Length
     taken-ended e = take-end n (drop at s) (taken-short e)
 
 module _ (l : List ℕ) where
@@ -129,18 +124,18 @@ module _ (l : List ℕ) where
   unfolding read_name and_then
   name-byte len n e = ap (λ (m : Read ℕ). and_then l m read_text) e
 
-  pub name-end : read_byte l ≡ refused refusals.Length → read_name l ≡ refused refusals.Length
+  pub name-end : (r : Refusal) → read_byte l ≡ refused r → read_name l ≡ refused r
   unfolding read_name and_then
-  name-end e = ap (λ (m : Read ℕ). and_then l m read_text) e
+  name-end r e = ap (λ (m : Read ℕ). and_then l m read_text) e
 
   pub text-long : (len : ℕ) → 20 < len → read_text len l ≡ refused refusals.Field
   unfolding read_text
   text-long len h = simp (lt-leb len 20 h)
 
   module _ (len : ℕ) (short : len ≤ 20) where
-    pub text-end : take_bytes len l ≡ refused refusals.Length → read_text len l ≡ refused refusals.Length
+    pub text-end : (r : Refusal) → take_bytes len l ≡ refused r → read_text len l ≡ refused r
     unfolding read_text and_then
-    text-end e = simp (le-leb len 20 short, e)
+    text-end r e = simp (le-leb len 20 short, e)
 
     module _ (e : take_bytes len l ≡ got (take len l) len) where
       pub text-bad : all allowed (take len l) ≡ false → read_text len l ≡ refused refusals.Field
@@ -153,31 +148,31 @@ module _ (l : List ℕ) where
 
 -- how reading a name at a place goes on from what the cursor handed out
 module _ (s : List ℕ) (at : ℕ) where
-  pub name-none : byte_at s at ≡ next.End → name_by at (refused refusals.Length) ≡ name_at s at
+  pub name-none : byte_at s at ≡ None → Err refusals.Length ≡ name_at s at
   unfolding name_at
-  name-none e = ap (name_by at) (sym (name-end (drop at s) (byte-ended s at e)))
+  name-none e = ap (read_by at) (sym (name-end (drop at s) refusals.Length (byte-ended s at e)))
 
   module _ (len : ℕ) (c : Cursor) (first : ByteAt s at len c) where
-    goes_on : (m : Read Name) → read_text len (drop c.at s) ≡ m → name_by at (behind 1 m) ≡ name_at s at
+    goes_on : (m : Read Name) → read_text len (drop c.at s) ≡ m → read_by at (behind 1 m) ≡ name_at s at
     unfolding name_at
     goes_on m e =
-        ap (name_by at)
+        ap (read_by at)
         (sym (name-byte (drop at s) len 1 first.reads
         ∙ ap (λ (l : List ℕ). behind 1 (read_text len l)) (drop-drop 1 at s ∙ ap (λ (k : ℕ). drop k s) (sym first.after))
         ∙ ap (behind 1) e))
 
-    pub name-long : 20 < len → name_by at (refused refusals.Field) ≡ name_at s at
+    pub name-long : 20 < len → Err refusals.Field ≡ name_at s at
     name-long h = goes_on (refused refusals.Field) (text-long (drop c.at s) len h)
 
     module _ (short : len ≤ 20) where
-      pub name-short : taken_at s c.at len ≡ taken.End → name_by at (refused refusals.Length) ≡ name_at s at
-      name-short e = goes_on (refused refusals.Length) (text-end (drop c.at s) len short (taken-ended s c.at len e))
+      pub name-short : taken_at s c.at len ≡ None → Err refusals.Length ≡ name_at s at
+      name-short e = goes_on (refused refusals.Length) (text-end (drop c.at s) len short refusals.Length (taken-ended s c.at len e))
 
       module _ (from : ℕ) (d : Cursor) (text : TakenAt s c.at len from d) where
         same : take len (drop from s) ≡ take len (drop c.at s)
         same = ap (λ (k : ℕ). take len (drop k s)) text.place
 
-        pub name-bad : all allowed (take len (drop from s)) ≡ false → name_by at (refused refusals.Field) ≡ name_at s at
+        pub name-bad : all allowed (take len (drop from s)) ≡ false → Err refusals.Field ≡ name_at s at
         name-bad a = goes_on (refused refusals.Field) (text-bad (drop c.at s) len short text.reads (ap (all allowed) (sym same) ∙ a))
 
         pub name-read : (bytes : List ℕ) → bytes ≡ padded 20 0 (take len (drop from s)) → all allowed (take len (drop from s)) ≡ true
@@ -189,13 +184,3 @@ module _ (s : List ℕ) (at : ℕ) where
             ap₂ (λ (x : List ℕ) (k : ℕ). read_as x len k) (b ∙ ap (padded 20 0) same) place
             ∙ ap (λ (k : ℕ). read_as (padded 20 0 l) k (at + (1 + len))) long
             ∙ goes_on (got (name_of l) len) (text-got (drop c.at s) len short text.reads (ap (all allowed) (sym same) ∙ a))
-
--- what a name's answer says of the bytes that it was read from
-module _ (s : List ℕ) (at : ℕ) where
-  pub name-given : (name_at s at).answer ≡ Accepted → Given (name_by at) (read_name (drop at s)) (name_at s at)
-  unfolding name_at
-  name-given = given (name_by at) (λ (x : NameRead). x.answer) (λ x n. refl) (λ w. refl) (name_at s at) (read_name (drop at s)) refl
-
-  pub name-refused : (w : Refusal) → (name_at s at).answer ≡ Refused w → read_name (drop at s) ≡ refused w
-  unfolding name_at
-  name-refused = refusal (name_by at) (λ (x : NameRead). x.answer) (λ x n. refl) (λ w. refl) (name_at s at) (read_name (drop at s)) refl

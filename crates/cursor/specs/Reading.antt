@@ -1,12 +1,18 @@
 -- Reading a list of bytes from the front: what document 01's 'The questions, in order' asks at each place.
-use Rattle.std.specs.Prelude.{Bool, true, false, cond, List, [], ◌∷◌, ℕ, zero, suc, ◌+◌, leb, length, take, drop}
+use Rattle.std.specs.Prelude.{Bool, true, false, cond, List, [], ◌∷◌, ℕ, zero, suc, ◌+◌, leb, length, take, drop, Result, Ok, Err}
 use Rattle.refusal.specs.declared.Refusal.{Refusal}
 use Rattle.refusal.specs.declared.Refusal.TheVariants as refusals
+use Rattle.cursor.specs.declared.Cursor.{Cursor}
 
 -- What reading gives: a value and the number of bytes that it takes, or the refusal.
 pub data Read (A : Type 0) : Type 0 where
   got : A → ℕ → Read A
   refused : Refusal → Read A
+
+-- What a call answers for a reading at a place of a slice: the value and the cursor past it, or the refusal.
+abbrev pub read_by : {A : Type 0} → ℕ → Read A → Result (A × Cursor) Refusal
+read_by at (got x n) = Ok (x, record { at = at + n })
+read_by at (refused r) = Err r
 
 -- behind n bytes
 abbrev pub behind : {A : Type 0} → ℕ → Read A → Read A

@@ -1,4 +1,4 @@
-pub mod Head
+pub mod Counts
 pub mod Parts
 pub mod Body
 pub mod File

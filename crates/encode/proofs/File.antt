@@ -1,4 +1,5 @@
 -- The parts of a file and their lengths, and what the writer's answers say.
+use Rattle.std.specs.Prelude.{Err, Ok, Result, ⊤}
 use mathlib.Core.Path.{◌≡◌, refl, sym, ap, ◌∙◌}
 use mathlib.Core.Bool.{Bool, true, false, cond, ◌&&◌}
 use mathlib.Core.List.{List, [], ◌∷◌, ◌++◌, append_assoc, flat_map}
@@ -12,8 +13,6 @@ use Rattle.common.proofs.Tests.{and_left, and_right}
 use Rattle.le.specs.Le.{bytes_of, written}
 use Rattle.le.proofs.Laws.{length-bytes, more, take-written}
 use Rattle.checksum.specs.V42.{check_of}
-use Rattle.refusal.specs.declared.Answer.{Answer}
-use Rattle.refusal.specs.declared.Answer.TheVariants.{Accepted, Refused}
 use Rattle.refusal.specs.declared.Refusal.{Refusal}
 use Rattle.refusal.specs.declared.Refusal.TheVariants as refusals
 use Rattle.names.specs.Names.{name_ok}
@@ -25,8 +24,6 @@ use Rattle.refusal.specs.Number.{ask, answer_number}
 use Rattle.validation.specs.Sound.{valid_answer, workout_answer}
 use Rattle.steps.specs.Bytes.{step_bytes}
 use Rattle.step_writer.proofs.Laws.{name-size}
-use Rattle.encode.specs.declared.Encoded.{Encoded}
-use Rattle.encode.specs.declared.Encoded.TheVariants as encoded
 use Rattle.encode.specs.Encode.{block_bytes, head_bytes, body_bytes, file_bytes, encoded_number, then_ask, writer_answer, encoded_by, encoded_of, output_by, output_of}
 use Rattle.encode.proofs.Sizes.{name-fits, head-length}
 
@@ -115,53 +112,53 @@ file-written w d k c e f g h =
 -- the writer's answers
 module _ (w : Workout) (out : List ℕ) where
   -- the writer's number is that of its questions
-  by_number : (a : Answer) (size : ℕ) → encoded_number (encoded_by a size (length out)) ≡ answer_number (then_ask a (ask (leb size (length out)) refusals.Output Accepted))
-  by_number (Refused r) size = refl
-  by_number Accepted size = at (leb size (length out))
+  by_number : (a : Result ⊤ Refusal) (size : ℕ) → encoded_number (encoded_by a size (length out)) ≡ answer_number (then_ask a (ask (leb size (length out)) refusals.Output (Ok tt)))
+  by_number (Err r) size = refl
+  by_number (Ok tt) size = at (leb size (length out))
     where
-      at : (b : Bool) → encoded_number (cond b (encoded.Written size) (encoded.Refused refusals.Output)) ≡ answer_number (ask b refusals.Output Accepted)
+      at : (b : Bool) → encoded_number (cond b (Ok size) (Err refusals.Output)) ≡ answer_number (ask b refusals.Output (Ok tt))
       at true = refl
       at false = refl
 
   -- What `encode` gives.
-  abbrev Gives : Encoded → List ℕ → Type 0
+  abbrev Gives : Result ℕ Refusal → List ℕ → Type 0
   Gives r next = (r ≡ encoded_of w (length out)) × ((next ≡ output_of w out) × (encoded_number r ≡ answer_number (writer_answer w (length out))))
 
-  gives : (r : Encoded) (next : List ℕ) → r ≡ encoded_of w (length out) → next ≡ output_of w out → Gives r next
+  gives : (r : Result ℕ Refusal) (next : List ℕ) → r ≡ encoded_of w (length out) → next ≡ output_of w out → Gives r next
   unfolding encoded_of writer_answer
   gives r next e f = (e, (f, ap encoded_number e ∙ by_number (workout_answer w) (length (file_bytes w))))
 
-  pub refused-form : (r : Refusal) → workout_answer w ≡ Refused r → Gives (encoded.Refused r) out
+  pub refused-form : (r : Refusal) → workout_answer w ≡ Err r → Gives (Err r) out
   unfolding encoded_of output_of
   refused-form r e =
-      gives (encoded.Refused r) out (sym (ap (λ (a : Answer). encoded_by a (length (file_bytes w)) (length out)) e))
-      (sym (ap (λ (a : Answer). output_by (encoded_by a (length (file_bytes w)) (length out)) w out) e))
+      gives (Err r) out (sym (ap (λ (a : Result ⊤ Refusal). encoded_by a (length (file_bytes w)) (length out)) e))
+      (sym (ap (λ (a : Result ⊤ Refusal). output_by (encoded_by a (length (file_bytes w)) (length out)) w out) e))
 
-  by-room : (t : Bool) → workout_answer w ≡ Accepted → leb (length (file_bytes w)) (length out) ≡ t
-      → encoded_of w (length out) ≡ cond t (encoded.Written (length (file_bytes w))) (encoded.Refused refusals.Output)
+  by-room : (t : Bool) → workout_answer w ≡ Ok tt → leb (length (file_bytes w)) (length out) ≡ t
+      → encoded_of w (length out) ≡ cond t (Ok (length (file_bytes w))) (Err refusals.Output)
   unfolding encoded_of
   by-room t e f =
-      ap (λ (a : Answer). encoded_by a (length (file_bytes w)) (length out)) e
-      ∙ ap (λ (x : Bool). cond x (encoded.Written (length (file_bytes w))) (encoded.Refused refusals.Output)) f
+      ap (λ (a : Result ⊤ Refusal). encoded_by a (length (file_bytes w)) (length out)) e
+      ∙ ap (λ (x : Bool). cond x (Ok (length (file_bytes w))) (Err refusals.Output)) f
 
-  pub no_room : workout_answer w ≡ Accepted → length out < length (file_bytes w) → Gives (encoded.Refused refusals.Output) out
+  pub no_room : workout_answer w ≡ Ok tt → length out < length (file_bytes w) → Gives (Err refusals.Output) out
   unfolding output_of
   no_room e h =
       let f = by-room false e (lt-leb (length (file_bytes w)) (length out) h) in
-      gives (encoded.Refused refusals.Output) out (sym f) (sym (ap (λ (x : Encoded). output_by x w out) f))
+      gives (Err refusals.Output) out (sym f) (sym (ap (λ (x : Result ℕ Refusal). output_by x w out) f))
 
-  pub room-enough : (n : ℕ) (next : List ℕ) → workout_answer w ≡ Accepted → n ≡ length (file_bytes w) → n ≤ length out → next ≡ written out 0 (file_bytes w)
-      → Gives (encoded.Written n) next
+  pub room-enough : (n : ℕ) (next : List ℕ) → workout_answer w ≡ Ok tt → n ≡ length (file_bytes w) → n ≤ length out → next ≡ written out 0 (file_bytes w)
+      → Gives (Ok n) next
   unfolding output_of
   room-enough n next e size h g =
       let f = by-room true e (le-leb (length (file_bytes w)) (length out) (omega arith)) in
-      gives (encoded.Written n) next (ap (λ (k : ℕ). encoded.Written k) size ∙ sym f) (g ∙ sym (ap (λ (x : Encoded). output_by x w out) f))
+      gives (Ok n) next (ap (λ (k : ℕ). Ok k) size ∙ sym f) (g ∙ sym (ap (λ (x : Result ℕ Refusal). output_by x w out) f))
 
   -- what passes 5 to 9 passes 5
-  pub accepted-form : workout_answer w ≡ Accepted → form_ok w ≡ true
+  pub accepted-form : workout_answer w ≡ Ok tt → form_ok w ≡ true
   unfolding workout_answer
   accepted-form = go (form_ok w)
     where
-      go : (t : Bool) → ask t refusals.Field (valid_answer w) ≡ Accepted → t ≡ true
+      go : (t : Bool) → ask t refusals.Field (valid_answer w) ≡ Ok tt → t ≡ true
       go true e = refl
       go false e = let z : ◌≡◌ {A = ℕ} 0 1 = cc in absurd (omega arith)

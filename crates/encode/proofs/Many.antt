@@ -1,12 +1,12 @@
 -- Writing the elements of an array one behind the other: one law over the element and its bytes.
 use mathlib.Core.Path.{◌≡◌, refl, sym, ap, ◌∙◌}
 use mathlib.Core.List.{List, [], ◌∷◌, ◌++◌, append-nil, append_assoc, flat_map}
-use Prim.Native.Nat.{ℕ, ◌+◌, ◌-◌, ◌≤◌, ◌<◌}
+use Prim.Native.Nat.{ℕ, ◌+◌, ◌≤◌, ◌<◌}
 use native.Mathlib.Nat.{add-zero}
 use native.Mathlib.Numerals.{add-one}
 use native.Mathlib.Omega.{arith}
-use lib.ListN.{length, get_or, take, drop, length-append}
-use lib.Seq.{take-suc, take-add}
+use lib.ListN.{length, get_or, take, drop, length-append, take-append-drop}
+use lib.Seq.{take-suc}
 use Rattle.le.specs.Le.{written}
 use Rattle.le.proofs.Laws.{more, written_none}
 
@@ -28,16 +28,14 @@ module _ {A : Type 0} (bytes : A → List ℕ) where
         ∙ flat_append (take i xs) (get_or xs i d ∷ [])
         ∙ ap (λ (l : List ℕ). flat_map bytes (take i xs) ++ l) (flat-one (get_or xs i d))
 
-    -- fewer elements take no more bytes
-    pub flat-le : (i n : ℕ) → i ≤ n → length (flat_map bytes (take i xs)) ≤ length (flat_map bytes (take n xs))
-    flat-le i n h =
-        let whole : n ≡ i + (n - i) = omega arith in
+    -- the first elements take no more bytes than all
+    pub flat-le : (i : ℕ) → length (flat_map bytes (take i xs)) ≤ length (flat_map bytes xs)
+    flat-le i =
         omega (
           arith,
-          ap (λ (k : ℕ). length (flat_map bytes (take k xs))) whole
-              ∙ ap (λ (l : List A). length (flat_map bytes l)) (take-add i (n - i) xs)
-              ∙ ap length (flat_append (take i xs) (take (n - i) (drop i xs)))
-              ∙ length-append (flat_map bytes (take i xs)) (flat_map bytes (take (n - i) (drop i xs))),
+          ap (λ (l : List A). length (flat_map bytes l)) (sym (take-append-drop i xs))
+              ∙ ap length (flat_append (take i xs) (drop i xs))
+              ∙ length-append (flat_map bytes (take i xs)) (flat_map bytes (drop i xs)),
         )
 
     -- i elements written from place `at` on
@@ -68,23 +66,14 @@ module _ {A : Type 0} (bytes : A → List ℕ) where
                 ap length (flat-next i d h) ∙ length-append (flat_map bytes (take i xs)) (bytes (get_or xs i d)),
               )
 
-      -- the next element has room where all n have
-      pub room : (n i place : ℕ) (out : List ℕ) (d : A) → i < n → n ≤ length xs → at + length (flat_map bytes (take n xs)) ≤ length out₀
+      -- the next element has room where all have
+      pub room : (i place : ℕ) (out : List ℕ) (d : A) → i < length xs → at + length (flat_map bytes xs) ≤ length out₀
           → Wrote out₀ at i place out → place + length (bytes (get_or xs i d)) ≤ length out
-      room n i place out d h l fits w =
-          let within : i < length xs = omega arith in
+      room i place out d h fits w =
           omega (
             arith,
             w.behind,
             w.long,
-            flat-le (i + 1) n (omega arith),
-            ap length (flat-next i d within) ∙ length-append (flat_map bytes (take i xs)) (bytes (get_or xs i d)),
+            flat-le (i + 1),
+            ap length (flat-next i d h) ∙ length-append (flat_map bytes (take i xs)) (bytes (get_or xs i d)),
           )
-
-      -- all n are written
-      pub wrote-all : (n i place : ℕ) (out : List ℕ) → i ≡ n → Wrote out₀ at i place out
-          → (place ≡ at + length (flat_map bytes (take n xs))) × (out ≡ written out₀ at (flat_map bytes (take n xs)))
-      wrote-all n i place out whole w = (
-        w.behind ∙ ap (λ (k : ℕ). at + length (flat_map bytes (take k xs))) whole,
-        w.is ∙ ap (λ (k : ℕ). written out₀ at (flat_map bytes (take k xs))) whole,
-      )

@@ -1,12 +1,11 @@
 -- Names that pass question 5 are at most 20 bytes long.
-use mathlib.Core.Path.{◌≡◌, sym, ap, ◌∙◌}
+use mathlib.Core.Path.{◌≡◌}
 use mathlib.Core.Bool.{true, ◌&&◌}
 use mathlib.Core.List.{List, [], ◌∷◌, ◌++◌}
 use Prim.Native.Nat.{ℕ, ◌+◌, ◌≤◌, ◌<◌}
 use native.Mathlib.Omega.{arith}
 use lib.Dec.{leb}
-use lib.ListN.{length, get_or, take, drop, length-append, length-take}
-use lib.Seq.{get_or-take}
+use lib.ListN.{length, get_or, take, drop, length-append}
 use borrow.Author.Tests.{leb-true}
 use Rattle.common.specs.Lists.{all}
 use Rattle.common.proofs.Tests.{and_left}
@@ -31,10 +30,8 @@ pub name-fits : (n : Name) → name_ok n ≡ true → n.len ≤ 20
 unfolding name_ok
 name-fits n e = leb-true n.len 20 (and_left (leb n.len 20) (all allowed (take n.len n.bytes) && all is_zero (drop n.len n.bytes)) e)
 
-pub note-fits : (steps : List Step) (n i : ℕ) (d : Step) → i < n → i < length steps → all note_ok (take n steps) ≡ true → (get_or steps i d).note.len ≤ 20
-note-fits steps n i d h l e =
-    name-fits (get_or steps i d).note
-    (ap note_ok (sym (get_or-take n steps i d h)) ∙ all-get note_ok (take n steps) i d (omega (arith, length-take n steps)) e)
+pub note-fits : (steps : List Step) (i : ℕ) (d : Step) → i < length steps → all note_ok steps ≡ true → (get_or steps i d).note.len ≤ 20
+note-fits steps i d h e = name-fits (get_or steps i d).note (all-get note_ok steps i d h e)
 
 pub head-length : (w : Workout) → length (head_bytes w) ≡ 6 + length (name_bytes w.name)
 unfolding head_bytes

@@ -11,14 +11,7 @@ ghost use Rattle.encode.specs.Encode.{test_kind, block_bytes, head_bytes, file_b
 ghost use Rattle.refusal.specs.Number.{answer_number};
 
 use model::{Block, Step, Test, Workout};
-use refusal::{Answer, Refusal};
-
-// The length of the file that was written, or the refusal.
-#[derive(Clone, Copy, Drop)]
-pub enum Encoded {
-    Written(usize),
-    Refused(Refusal),
-}
+use refusal::Refusal;
 
 pub fn test_kind(test: Test) -> u8
     ensures { result ≡ test_kind test }
@@ -36,10 +29,8 @@ fn put_steps(out: &mut [u8], at: usize, steps: [Step; 12], n: usize) -> usize
     ensures { (result ≡ at + length (flat_map step_bytes (take n steps))) × (out.new ≡ written out.old at (flat_map step_bytes (take n steps))) }
 {
     let mut place = at;
-    let mut i = 0;
-    while i < n {
-        place = step_writer::put_step(out, place, steps[i]);
-        i += 1;
+    for step in &steps[..n] {
+        place = step_writer::put_step(out, place, *step);
     }
     place
 }
@@ -59,11 +50,9 @@ fn put_blocks(out: &mut [u8], at: usize, blocks: [Block; 8], n: usize) -> usize
     ensures { (result ≡ at + length (flat_map block_bytes (take n blocks))) × (out.new ≡ written out.old at (flat_map block_bytes (take n blocks))) }
 {
     let mut place = at;
-    let mut i = 0;
-    while i < n {
-        put_block(out, place, blocks[i]);
+    for block in &blocks[..n] {
+        put_block(out, place, *block);
         place += 3;
-        i += 1;
     }
     place
 }
@@ -100,10 +89,8 @@ fn steps_size(steps: [Step; 12], n: usize) -> usize
     ensures { (result ≡ length (flat_map step_bytes (take n steps))) × (result ≤ 420) }
 {
     let mut size = 0;
-    let mut i = 0;
-    while i < n {
-        size += step_size(steps[i]);
-        i += 1;
+    for step in &steps[..n] {
+        size += step_size(*step);
     }
     size
 }
@@ -134,19 +121,16 @@ fn put_file(out: &mut [u8], workout: Workout)
 }
 
 // Asks 5 to 9, then 19, and writes exactly the file; refused, it leaves all bytes.
-pub fn encode(workout: Workout, out: &mut [u8]) -> Encoded
+pub fn encode(workout: Workout, out: &mut [u8]) -> Result<usize, Refusal>
     ensures value { result ≡ encoded_of workout (length out.old) }
     ensures out_after { out.new ≡ output_of workout out.old }
     ensures result_value { encoded_number result ≡ answer_number (writer_answer workout (length out.old)) }
 {
-    let answer = validation::check(workout);
-    if let Answer::Refused(refusal) = answer {
-        return Encoded::Refused(refusal);
-    }
+    validation::check(workout)?;
     let size = file_size(workout);
     if out.len() < size {
-        return Encoded::Refused(Refusal::Output);
+        return Err(Refusal::Output);
     }
     put_file(out, workout);
-    Encoded::Written(size)
+    Ok(size)
 }

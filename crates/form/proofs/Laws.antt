@@ -5,6 +5,7 @@ use Prim.Native.Nat.{ℕ}
 use lib.Dec.{eqb}
 use lib.ListN.{length}
 use borrow.Author.Tests.{eqb-true}
+use Rattle.std.specs.Cmp.{both_ways}
 use Rattle.common.specs.Lists.{all}
 use Rattle.common.proofs.Tests.{and_left, and_right}
 use Rattle.names.specs.declared.Name.{Name}
@@ -66,6 +67,11 @@ step_is_lem s h e =
     ap₂ (λ (x : Intensity) (y : Length). step_of x y s.target s.note) (work s.intensity (and_left i l il)) (untimed s.length (and_right i l il))
     ∙ ap₂ (step_of Work Open) (free s.target (and_right (i && l) t ilt))
     (blank-empty s.note h (and_right (i && l && t) n e))
+
+-- what tells `NO_STEP` from other steps is the definition's test
+pub no-step-test : (s : Step) (b : Bool) → length s.note.bytes ≡ 20 → (b ≡ true → s ≡ no_step) → (s ≡ no_step → b ≡ true) → b ≡ is_no_step s
+unfolding is_no_step all
+no-step-test s b h f g = both_ways b (is_no_step s) (λ e. ap is_no_step (f e)) (λ e. g (step_is_lem s h e))
 
 block-is : (b : Block) → is_no_block b ≡ true → b ≡ no_block
 block-is b e =

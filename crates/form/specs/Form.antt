@@ -1,5 +1,5 @@
 -- Document 01's question 5 of a workout in memory.
-use Rattle.std.specs.Prelude.{◌≡◌, Bool, true, false, cond, ◌&&◌, List, ℕ, ltb, leb, eqb, length, take, drop, replicate}
+use Rattle.std.specs.Prelude.{◌≡◌, Bool, true, false, ◌&&◌, List, ℕ, leb, eqb, length, take, drop, replicate}
 use Rattle.common.specs.Lists.{all}
 use Rattle.names.specs.Names.{name_ok, is_blank}
 use Rattle.model.specs.declared.Step.{Step}
@@ -59,13 +59,6 @@ unfoldable pub form_ok : Workout → Bool
 form_ok w =
     leb w.step_count 12 && leb w.block_count 8 && name_ok w.name && step_slots w.steps w.step_count &&
     block_slots w.blocks w.block_count
-
--- One place of the steps, and one of the blocks, as the loops ask them.
-abbrev pub step_slot : ℕ → ℕ → Step → Bool
-step_slot count at s = cond (ltb at count) (note_ok s) (is_no_step s)
-
-abbrev pub block_slot : ℕ → ℕ → Block → Bool
-block_slot count at b = cond (ltb at count) true (is_no_block b)
 
 -- The note is an array of 20 bytes.
 abbrev pub note_sized : Step → Bool

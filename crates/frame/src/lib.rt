@@ -2,12 +2,11 @@
 #![tactic(auto)]
 
 ghost use Rattle.std.specs.Prelude.{◌≡◌, [], ◌∷◌};
-ghost use Rattle.refusal.specs.declared.Answer.TheVariants.{Refused};
 ghost use Rattle.screen.specs.Screen.{ReportFits};
 ghost use Rattle.frame.specs.Frame.{band_watts, want_of, bikes_answer, grant_of, GrantsShared};
 
-use model::{BandOption, Metric};
-use refusal::{Answer, Refusal};
+use model::{Band, Metric};
+use refusal::Refusal;
 use screen::band_now;
 use standing::is_standing;
 use state::Player;
@@ -21,27 +20,20 @@ pub struct Bike {
     pub profile: TrainingProfile,
 }
 
-// What a bike's brake may draw: 0 where the call is refused.
+// What a bike's brake may draw: 0 where the call is refused, as request l has it, so a struct and no `Result` (`grant_of`).
 #[derive(Clone, Copy, Drop)]
 pub struct Granted {
-    pub answer: Answer,
+    pub answer: Result<(), Refusal>,
     pub watts: u16,
 }
 
 // The high end of a power band; a heart rate or a cadence wants no watts.
-fn band_watts(band: BandOption) -> u16
+fn band_watts(band: Option<Band>) -> u16
     ensures { result ≡ band_watts band }
 {
     match band {
-        BandOption::None => 0,
-        BandOption::Some(found) => {
-            let metric = found.metric;
-            match metric {
-                Metric::Power => found.high,
-                Metric::Heart => 0,
-                Metric::Cadence => 0,
-            }
-        }
+        Some(found) if matches!(found.metric, Metric::Power) => found.high,
+        _ => 0,
     }
 }
 
@@ -57,22 +49,22 @@ fn want(bike: Bike) -> u16
 }
 
 // Questions 20 and 10 of one bike.
-fn bike_answer(bike: Bike) -> Answer
+fn bike_answer(bike: Bike) -> Result<(), Refusal>
     ensures { result ≡ bikes_answer (bike ∷ []) }
 {
     let player = bike.player;
     let profile = bike.profile;
     if !is_standing(player) {
-        return Answer::Refused(Refusal::Standing);
+        return Err(Refusal::Standing);
     }
     profile.check()
 }
 
 fn no_grant(refusal: Refusal) -> Granted
-    ensures { result ≡ record { answer = Refused refusal; watts = 0 } }
+    ensures { result ≡ record { answer = Err refusal; watts = 0 } }
 {
     Granted {
-        answer: Answer::Refused(refusal),
+        answer: Err(refusal),
         watts: 0,
     }
 }
@@ -85,18 +77,14 @@ pub fn grant(bikes: [Bike; 4], supply: u32, bike: u32) -> Granted
         return no_grant(Refusal::BikeNumber);
     }
     let mut wants: [u16; 4] = [0; 4];
-    let mut i: usize = 0;
-    while i < 4 {
-        let one = bikes[i];
-        let answer = bike_answer(one);
-        if let Answer::Refused(refusal) = answer {
+    for (i, one) in bikes.iter().enumerate() {
+        if let Err(refusal) = bike_answer(*one) {
             return no_grant(refusal);
         }
-        wants[i] = want(one);
-        i += 1;
+        wants[i] = want(*one);
     }
     Granted {
-        answer: Answer::Accepted,
+        answer: Ok(()),
         watts: share(wants, supply, bike as usize),
     }
 }

@@ -1,6 +1,5 @@
 -- On bikes that start sound no grant is ever refused, whatever their calls: document 01's "Every call keeps it", of four bikes.
-use Rattle.std.specs.Prelude.{◌≡◌, true, List, [], ◌∷◌, ℕ, ◌≤◌, length}
-use Rattle.refusal.specs.declared.Answer.TheVariants.{Accepted}
+use Rattle.std.specs.Prelude.{◌≡◌, true, List, [], ◌∷◌, ℕ, ◌≤◌, length, Ok}
 use Rattle.zones.specs.declared.TrainingProfile.{TrainingProfile}
 use Rattle.zones.specs.Zones.{profile_ok}
 use Rattle.model.specs.declared.Workout.{Workout}
@@ -27,8 +26,8 @@ AllReadsFit (grant supply i ∷ l) = AllReadsFit l
 
 pub record GrantsAccepted : Type 0 where
   -- a fresh player of a workout that passes 5 to 9, under a profile that passes 10
-  pub fresh : (w : Workout) (f : TrainingProfile) → length w.steps ≡ 12 → workout_answer w ≡ Accepted → profile_ok f ≡ true
+  pub fresh : (w : Workout) (f : TrainingProfile) → length w.steps ≡ 12 → workout_answer w ≡ Ok tt → profile_ok f ≡ true
       → Sound (record { player = (new_of w).player; profile = f })
   -- after any list of calls, refused ones among them, with grants between
   pub accepted : (l : List FrameCall) (a b c d : Bike) → Sound a → Sound b → Sound c → Sound d → AllReadsFit l → (supply bike : ℕ) → bike ≤ 3
-      → (grant_of (frame_run l (a ∷ b ∷ c ∷ d ∷ [])).bikes supply bike).answer ≡ Accepted
+      → (grant_of (frame_run l (a ∷ b ∷ c ∷ d ∷ [])).bikes supply bike).answer ≡ Ok tt

@@ -1,7 +1,6 @@
 -- Four bikes in a full class, the supply short, then one finishes: what `grant` answers, call by call. So the statements about grants
 -- and records are of something. Crate `class` is the same class as a program.
-use Rattle.std.specs.Prelude.{◌≡◌, List, [], ◌∷◌, map, ℕ}
-use Rattle.refusal.specs.declared.Answer.TheVariants.{Accepted, Refused}
+use Rattle.std.specs.Prelude.{◌≡◌, List, [], ◌∷◌, map, ℕ, Err, Ok}
 use Rattle.refusal.specs.declared.Refusal.{Refusal}
 use Rattle.refusal.specs.declared.Refusal.TheVariants.{Profile, Standing, BikeNumber}
 use Rattle.names.specs.Names.{empty_name}
@@ -44,13 +43,13 @@ abbrev pub ask_all : ℕ → List FrameCall
 ask_all supply = grant supply 0 ∷ grant supply 1 ∷ grant supply 2 ∷ grant supply 3 ∷ []
 
 abbrev pub granted : ℕ → Granted
-granted watts = record { answer = Accepted; watts = watts }
+granted watts = record { answer = (Ok tt); watts = watts }
 
 abbrev pub refused : Refusal → Granted
-refused refusal = record { answer = Refused refusal; watts = 0 }
+refused refusal = record { answer = Err refusal; watts = 0 }
 
 pub record FullClass : Type 0 where
-  pub stand : bikes_answer riders ≡ Accepted
+  pub stand : bikes_answer riders ≡ Ok tt
   pub wanted : map want_of riders ≡ 200 ∷ 250 ∷ 300 ∷ 180 ∷ []
   -- 930 W wanted of 800: at 210 W they come to 800
   pub short : (frame_run (ask_all 800) riders).grants ≡ granted 200 ∷ granted 210 ∷ granted 210 ∷ granted 180 ∷ []

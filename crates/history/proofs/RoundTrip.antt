@@ -1,4 +1,5 @@
 -- When a record that is written and read again is the same, and that one that was read is.
+use Rattle.std.specs.Prelude.{None, Option, Some}
 use mathlib.Core.Path.{◌≡◌, refl, sym, ap, ◌∙◌, subst}
 use mathlib.Core.Bool.{Bool, true, false, cond, ◌&&◌}
 use mathlib.Core.List.{List, ◌++◌}
@@ -14,8 +15,6 @@ use Rattle.refusal.specs.Number.{question_number, answer_number}
 use Rattle.names.specs.Names.{name_ok}
 use Rattle.codec.proofs.Names.{name-len}
 use Rattle.model.specs.declared.Test.{Test}
-use Rattle.decode.specs.declared.TestOption.{TestOption}
-use Rattle.decode.specs.declared.TestOption.TheVariants as test_option
 use Rattle.decode.specs.Decode.{test_of}
 use Rattle.power.specs.Power.{or_zero, reading_at}
 use Rattle.history.specs.declared.Record.{Record}
@@ -84,9 +83,9 @@ read-from : (s : List ℕ) (r : Record) → decode_of s ≡ read_as r → ReadFr
 unfolding decode_of
 read-from s r = go (is_whole s && leb (get_or s 20 0) 20) refl
   where
-    by : is_whole s ≡ true → (o : TestOption) → with_test s o ≡ read_as r → ReadFrom s r
-    by w (test_option.Some t) e = record { whole = w; test = t; is = ap (λ (x : RecordRead). x.«record») e }
-    by w test_option.None e = absurd (refused-not-read r e)
+    by : is_whole s ≡ true → (o : Option Test) → with_test s o ≡ read_as r → ReadFrom s r
+    by w (Some t) e = record { whole = w; test = t; is = ap (λ (x : RecordRead). x.«record») e }
+    by w None e = absurd (refused-not-read r e)
 
     go : (t : Bool) → (is_whole s && leb (get_or s 20 0) 20) ≡ t → cond t (with_test s (test_of (get_or s 41 0))) no_record ≡ read_as r → ReadFrom s r
     go true w e = by (and_left (is_whole s) (leb (get_or s 20 0) 20) w) (test_of (get_or s 41 0)) e

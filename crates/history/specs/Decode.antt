@@ -1,22 +1,18 @@
 -- history.rs, `decode`. Document 01, 'Ride record': "read as its `decode` does: version 1 or more, body length at least 66, later bytes
 -- and unknown flags passed over".
-use Rattle.std.specs.Prelude.{Bool, cond, ◌&&◌, List, ℕ, ◌+◌, leb, eqb, length, get_or, take}
+use Rattle.std.specs.Prelude.{Bool, cond, ◌&&◌, List, ℕ, ◌+◌, leb, eqb, length, get_or, take, Err, None, Ok, Option, Some}
 use Rattle.le.specs.Le.{number_of, part}
 use Rattle.checksum.specs.V42.{check_of}
-use Rattle.refusal.specs.declared.Answer.TheVariants.{Accepted, Refused}
 use Rattle.refusal.specs.declared.Refusal.TheVariants as refusals
 use Rattle.names.specs.declared.Name.{Name}
 use Rattle.names.specs.Names.{name_from, empty_name}
 use Rattle.model.specs.declared.Test.{Test}
 use Rattle.model.specs.declared.Test.TheVariants as tests
-use Rattle.decode.specs.declared.TestOption.{TestOption}
-use Rattle.decode.specs.declared.TestOption.TheVariants as test_option
 use Rattle.decode.specs.Decode.{test_of}
 use Rattle.power.specs.Power.{reading_at}
 use Rattle.readings.specs.Readings.{flag_set}
 use Rattle.state.specs.declared.Summary.{Summary}
 use Rattle.start.specs.Start.{no_summary}
-use Rattle.history.specs.declared.StartOption.TheVariants as start
 use Rattle.history.specs.declared.Record.{Record}
 use Rattle.history.specs.declared.RecordRead.{RecordRead}
 use Rattle.history.specs.Record.{version, body_size, start_at, finished_flag, dated_flag, measured_flag}
@@ -149,18 +145,18 @@ record_in s test =
 
 -- "a record of zeros, no name, nothing present"
 abbrev pub zero_record : Record
-zero_record = record { journal = 0; ride_id = 0; started_utc_ms = start.None; name = empty_name; test = tests.None; summary = no_summary 0 }
+zero_record = record { journal = 0; ride_id = 0; started_utc_ms = None; name = empty_name; test = tests.None; summary = no_summary 0 }
 
 abbrev pub no_record : RecordRead
-no_record = record { answer = Refused refusals.Record; «record» = zero_record }
+no_record = record { answer = Err refusals.Record; «record» = zero_record }
 
 abbrev pub read_as : Record → RecordRead
-read_as r = record { answer = Accepted; «record» = r }
+read_as r = record { answer = (Ok tt); «record» = r }
 
 -- the test byte is judged last
-abbrev pub with_test : List ℕ → TestOption → RecordRead
-with_test s (test_option.Some test) = read_as (record_in s test)
-with_test s test_option.None = no_record
+abbrev pub with_test : List ℕ → Option Test → RecordRead
+with_test s (Some test) = read_as (record_in s test)
+with_test s None = no_record
 
 -- "Record readable by `decode`? 18"
 unfoldable pub decode_of : List ℕ → RecordRead

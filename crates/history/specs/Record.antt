@@ -1,22 +1,21 @@
 -- history.rs: the bytes of a ride record. Document 01, 'Ride record': "70 bytes as its `encode` writes"; document 02, g: "The record is
 -- written as version 2, body 70, with unread as a 4-byte number at 66, limited like the others, and the check word at 70."
-use Rattle.std.specs.Prelude.{◌≡◌, Bool, true, false, cond, List, [], ◌∷◌, ◌++◌, ℕ, ◌+◌, min, length, take, replicate}
+use Rattle.std.specs.Prelude.{◌≡◌, Bool, cond, List, [], ◌∷◌, ◌++◌, ℕ, ◌+◌, min, length, take, replicate, Option, is_some, unwrap_or}
+use Rattle.std.specs.Bool.{then_some}
 use Rattle.le.specs.Le.{bytes_of}
 use Rattle.checksum.specs.V42.{check_of}
 use Rattle.names.specs.declared.Name.{Name}
 use Rattle.names.specs.Names.{as_bytes}
 use Rattle.model.specs.declared.Test.{Test}
 use Rattle.encode.specs.Encode.{test_kind}
-use Rattle.power.specs.Power.{or_zero, is_some}
+use Rattle.power.specs.Power.{or_zero}
 use Rattle.state.specs.declared.Summary.{Summary}
-use Rattle.history.specs.declared.StartOption.{StartOption}
-use Rattle.history.specs.declared.StartOption.TheVariants.{None, Some}
 use Rattle.history.specs.declared.Record.{Record}
 
 -- The record of a ride.
 
-abbrev pub start_at : Bool → ℕ → StartOption
-start_at dated start = cond dated (Some start) None
+abbrev pub start_at : Bool → ℕ → Option ℕ
+start_at dated start = then_some dated start
 
 -- What is stored of a ride: the workout's name and test, how it went, and the ride's "journal, id, start time and a yes or no for
 -- whether it is dated".
@@ -56,9 +55,8 @@ dated_flag = 2
 abbrev pub measured_flag : ℕ
 measured_flag = 4
 
-abbrev pub is_dated : StartOption → Bool
-is_dated None = false
-is_dated (Some ms) = true
+abbrev pub is_dated : Option ℕ → Bool
+is_dated start = is_some start
 
 abbrev pub flag : Bool → ℕ → ℕ
 flag on value = cond on value 0
@@ -67,9 +65,8 @@ unfoldable pub flags_of : Record → ℕ
 flags_of r = flag r.summary.finished finished_flag + (flag (is_dated r.started_utc_ms) dated_flag + flag (is_some r.summary.ftp) measured_flag)
 
 -- 0 where the start isn't known
-abbrev pub start_ms : StartOption → ℕ
-start_ms None = 0
-start_ms (Some ms) = ms
+abbrev pub start_ms : Option ℕ → ℕ
+start_ms start = unwrap_or start 0
 
 -- "Milliseconds above 4,294,967,295 are written as that number."
 abbrev pub most_ms : ℕ

@@ -2,17 +2,15 @@
 -- some bytes with what its `decode` reads of them and what g reads as unread. `read_9` is what the Rust's `encode` wrote itself, version 1.
 -- Written by tests/oracle/record_samples.rs, compared by tests/oracle/run. The definitions are held against these, since the Rust is
 -- outside the proof.
-use Rattle.std.specs.Prelude.{◌≡◌, Bool, true, false, [], ◌∷◌, ◌++◌, ℕ}
+use Rattle.std.specs.Prelude.{◌≡◌, Bool, true, false, [], ◌∷◌, ◌++◌, ℕ, None, Option, Some}
 use Rattle.cursor.specs.Names.{name_of}
 use Rattle.model.specs.declared.Test.TheVariants as tests
-use Rattle.power.specs.declared.ReadingOption.{ReadingOption}
-use Rattle.power.specs.declared.ReadingOption.TheVariants as ftp
 use Rattle.state.specs.declared.Summary.{Summary}
 use Rattle.history.specs.Record.{record_of, record_bytes}
 use Rattle.history.specs.Decode.{no_record, read_as, decode_of}
 
 -- steps done, steps, skipped; targeted, in, under, over, unread; finished; FTP
-abbrev pub summary_of : ℕ → ℕ → ℕ → ℕ → ℕ → ℕ → ℕ → ℕ → Bool → ReadingOption → Summary
+abbrev pub summary_of : ℕ → ℕ → ℕ → ℕ → ℕ → ℕ → ℕ → ℕ → Bool → Option ℕ → Summary
 summary_of done steps skipped targeted inside under over unread finished measured =
     record {
       targeted_ms = targeted;
@@ -31,7 +29,7 @@ summary_of done steps skipped targeted inside under over unread finished measure
 pub record Samples : Type 0 where
   pub written_0 : record_bytes
       (record_of (name_of ([])) tests.None
-      (summary_of 0 0 0 0 0 0 0 0 false ftp.None) 0 0 0 false)
+      (summary_of 0 0 0 0 0 0 0 0 false None) 0 0 0 false)
       ≡ (86 ∷ 87 ∷ 75 ∷ 79 ∷ 2 ∷ 70 ∷ 0 ∷ 0 ∷ 0 ∷ 0 ∷ [])
       ++ ((0 ∷ 0 ∷ 0 ∷ 0 ∷ 0 ∷ 0 ∷ 0 ∷ 0 ∷ 0 ∷ 0 ∷ [])
       ++ ((0 ∷ 0 ∷ 0 ∷ 0 ∷ 0 ∷ 0 ∷ 0 ∷ 0 ∷ 0 ∷ 0 ∷ [])
@@ -42,7 +40,7 @@ pub record Samples : Type 0 where
       ++ ((17 ∷ 51 ∷ 60 ∷ 157 ∷ []))))))))
   pub written_1 : record_bytes
       (record_of (name_of (79 ∷ 86 ∷ 69 ∷ 82 ∷ 32 ∷ 85 ∷ 78 ∷ 68 ∷ 69 ∷ 82 ∷ 83 ∷ 32 ∷ 49 ∷ 50 ∷ 32 ∷ 88 ∷ 32 ∷ 52 ∷ 55 ∷ 53 ∷ [])) tests.Twenty
-      (summary_of 12 12 1 3600000 3000000 400000 200000 1234567 true (ftp.Some 250)) 105 7 1700000000000 true)
+      (summary_of 12 12 1 3600000 3000000 400000 200000 1234567 true (Some 250)) 105 7 1700000000000 true)
       ≡ (86 ∷ 87 ∷ 75 ∷ 79 ∷ 2 ∷ 70 ∷ 105 ∷ 7 ∷ 7 ∷ 0 ∷ [])
       ++ ((0 ∷ 0 ∷ 0 ∷ 104 ∷ 229 ∷ 207 ∷ 139 ∷ 1 ∷ 0 ∷ 0 ∷ [])
       ++ ((20 ∷ 79 ∷ 86 ∷ 69 ∷ 82 ∷ 32 ∷ 85 ∷ 78 ∷ 68 ∷ 69 ∷ [])
@@ -53,7 +51,7 @@ pub record Samples : Type 0 where
       ++ ((7 ∷ 109 ∷ 161 ∷ 204 ∷ []))))))))
   pub written_2 : record_bytes
       (record_of (name_of (82 ∷ 65 ∷ 77 ∷ 80 ∷ [])) tests.Ramp
-      (summary_of 65535 65535 65535 4294967296 18446744073709551615 4294967295 4294967297 77000 false ftp.None) 98 4294967295 18446744073709551615 true)
+      (summary_of 65535 65535 65535 4294967296 18446744073709551615 4294967295 4294967297 77000 false None) 98 4294967295 18446744073709551615 true)
       ≡ (86 ∷ 87 ∷ 75 ∷ 79 ∷ 2 ∷ 70 ∷ 98 ∷ 2 ∷ 255 ∷ 255 ∷ [])
       ++ ((255 ∷ 255 ∷ 255 ∷ 255 ∷ 255 ∷ 255 ∷ 255 ∷ 255 ∷ 255 ∷ 255 ∷ [])
       ++ ((4 ∷ 82 ∷ 65 ∷ 77 ∷ 80 ∷ 0 ∷ 0 ∷ 0 ∷ 0 ∷ 0 ∷ [])
@@ -64,7 +62,7 @@ pub record Samples : Type 0 where
       ++ ((148 ∷ 190 ∷ 137 ∷ 31 ∷ []))))))))
   pub written_3 : record_bytes
       (record_of (name_of (126 ∷ [])) tests.None
-      (summary_of 0 1 0 4294967294 1 2 3 4294967296 false (ftp.Some 0)) 98 1 0 true)
+      (summary_of 0 1 0 4294967294 1 2 3 4294967296 false (Some 0)) 98 1 0 true)
       ≡ (86 ∷ 87 ∷ 75 ∷ 79 ∷ 2 ∷ 70 ∷ 98 ∷ 6 ∷ 1 ∷ 0 ∷ [])
       ++ ((0 ∷ 0 ∷ 0 ∷ 0 ∷ 0 ∷ 0 ∷ 0 ∷ 0 ∷ 0 ∷ 0 ∷ [])
       ++ ((1 ∷ 126 ∷ 0 ∷ 0 ∷ 0 ∷ 0 ∷ 0 ∷ 0 ∷ 0 ∷ 0 ∷ [])
@@ -75,7 +73,7 @@ pub record Samples : Type 0 where
       ++ ((93 ∷ 36 ∷ 14 ∷ 116 ∷ []))))))))
   pub written_4 : record_bytes
       (record_of (name_of (52 ∷ 88 ∷ 52 ∷ [])) tests.None
-      (summary_of 96 96 96 1 0 0 1 18446744073709551615 true (ftp.Some 65535)) 105 2 77 false)
+      (summary_of 96 96 96 1 0 0 1 18446744073709551615 true (Some 65535)) 105 2 77 false)
       ≡ (86 ∷ 87 ∷ 75 ∷ 79 ∷ 2 ∷ 70 ∷ 105 ∷ 5 ∷ 2 ∷ 0 ∷ [])
       ++ ((0 ∷ 0 ∷ 0 ∷ 0 ∷ 0 ∷ 0 ∷ 0 ∷ 0 ∷ 0 ∷ 0 ∷ [])
       ++ ((3 ∷ 52 ∷ 88 ∷ 52 ∷ 0 ∷ 0 ∷ 0 ∷ 0 ∷ 0 ∷ 0 ∷ [])
@@ -86,7 +84,7 @@ pub record Samples : Type 0 where
       ++ ((145 ∷ 172 ∷ 98 ∷ 162 ∷ []))))))))
   pub written_5 : record_bytes
       (record_of (name_of ([])) tests.None
-      (summary_of 1 1 0 0 0 0 0 4294967295 true ftp.None) 105 3 0 false)
+      (summary_of 1 1 0 0 0 0 0 4294967295 true None) 105 3 0 false)
       ≡ (86 ∷ 87 ∷ 75 ∷ 79 ∷ 2 ∷ 70 ∷ 105 ∷ 1 ∷ 3 ∷ 0 ∷ [])
       ++ ((0 ∷ 0 ∷ 0 ∷ 0 ∷ 0 ∷ 0 ∷ 0 ∷ 0 ∷ 0 ∷ 0 ∷ [])
       ++ ((0 ∷ 0 ∷ 0 ∷ 0 ∷ 0 ∷ 0 ∷ 0 ∷ 0 ∷ 0 ∷ 0 ∷ [])
@@ -97,7 +95,7 @@ pub record Samples : Type 0 where
       ++ ((2 ∷ 100 ∷ 249 ∷ 42 ∷ []))))))))
   pub written_6 : record_bytes
       (record_of (name_of ([])) tests.None
-      (summary_of 0 0 0 0 0 0 0 1 false ftp.None) 105 4 1 true)
+      (summary_of 0 0 0 0 0 0 0 1 false None) 105 4 1 true)
       ≡ (86 ∷ 87 ∷ 75 ∷ 79 ∷ 2 ∷ 70 ∷ 105 ∷ 2 ∷ 4 ∷ 0 ∷ [])
       ++ ((0 ∷ 0 ∷ 1 ∷ 0 ∷ 0 ∷ 0 ∷ 0 ∷ 0 ∷ 0 ∷ 0 ∷ [])
       ++ ((0 ∷ 0 ∷ 0 ∷ 0 ∷ 0 ∷ 0 ∷ 0 ∷ 0 ∷ 0 ∷ 0 ∷ [])
@@ -108,7 +106,7 @@ pub record Samples : Type 0 where
       ++ ((43 ∷ 101 ∷ 229 ∷ 165 ∷ []))))))))
   pub written_7 : record_bytes
       (record_of (name_of ([])) tests.Ramp
-      (summary_of 0 1 0 0 0 0 0 4294967294 false (ftp.Some 50)) 105 5 0 false)
+      (summary_of 0 1 0 0 0 0 0 4294967294 false (Some 50)) 105 5 0 false)
       ≡ (86 ∷ 87 ∷ 75 ∷ 79 ∷ 2 ∷ 70 ∷ 105 ∷ 4 ∷ 5 ∷ 0 ∷ [])
       ++ ((0 ∷ 0 ∷ 0 ∷ 0 ∷ 0 ∷ 0 ∷ 0 ∷ 0 ∷ 0 ∷ 0 ∷ [])
       ++ ((0 ∷ 0 ∷ 0 ∷ 0 ∷ 0 ∷ 0 ∷ 0 ∷ 0 ∷ 0 ∷ 0 ∷ [])
@@ -119,7 +117,7 @@ pub record Samples : Type 0 where
       ++ ((219 ∷ 96 ∷ 248 ∷ 215 ∷ []))))))))
   pub written_8 : record_bytes
       (record_of (name_of (65 ∷ 66 ∷ 67 ∷ 68 ∷ 69 ∷ 70 ∷ 71 ∷ 72 ∷ 73 ∷ 74 ∷ 75 ∷ 76 ∷ 77 ∷ 78 ∷ 79 ∷ 80 ∷ 81 ∷ 82 ∷ 83 ∷ [])) tests.Twenty
-      (summary_of 3597 4111 4625 370480147 437852183 505224219 572596255 673654309 true (ftp.Some 9251)) 255 67305985 867798387104613893 true)
+      (summary_of 3597 4111 4625 370480147 437852183 505224219 572596255 673654309 true (Some 9251)) 255 67305985 867798387104613893 true)
       ≡ (86 ∷ 87 ∷ 75 ∷ 79 ∷ 2 ∷ 70 ∷ 255 ∷ 7 ∷ 1 ∷ 2 ∷ [])
       ++ ((3 ∷ 4 ∷ 5 ∷ 6 ∷ 7 ∷ 8 ∷ 9 ∷ 10 ∷ 11 ∷ 12 ∷ [])
       ++ ((19 ∷ 65 ∷ 66 ∷ 67 ∷ 68 ∷ 69 ∷ 70 ∷ 71 ∷ 72 ∷ 73 ∷ [])
@@ -130,7 +128,7 @@ pub record Samples : Type 0 where
       ++ ((99 ∷ 119 ∷ 129 ∷ 74 ∷ []))))))))
   pub written_9 : record_bytes
       (record_of (name_of (83 ∷ 87 ∷ 69 ∷ 69 ∷ 84 ∷ 32 ∷ 83 ∷ 80 ∷ 79 ∷ 84 ∷ 32 ∷ 57 ∷ 48 ∷ 37 ∷ 44 ∷ 32 ∷ 64 ∷ 96 ∷ [])) tests.Ramp
-      (summary_of 2 5 1 600000 100000 200000 300000 400000 false (ftp.Some 600)) 98 256 256 false)
+      (summary_of 2 5 1 600000 100000 200000 300000 400000 false (Some 600)) 98 256 256 false)
       ≡ (86 ∷ 87 ∷ 75 ∷ 79 ∷ 2 ∷ 70 ∷ 98 ∷ 4 ∷ 0 ∷ 1 ∷ [])
       ++ ((0 ∷ 0 ∷ 0 ∷ 0 ∷ 0 ∷ 0 ∷ 0 ∷ 0 ∷ 0 ∷ 0 ∷ [])
       ++ ((18 ∷ 83 ∷ 87 ∷ 69 ∷ 69 ∷ 84 ∷ 32 ∷ 83 ∷ 80 ∷ 79 ∷ [])
@@ -151,7 +149,7 @@ pub record Samples : Type 0 where
       ++ ((3 ∷ []))))))))))
       ≡ read_as
       (record_of (name_of (79 ∷ 86 ∷ 69 ∷ 82 ∷ 32 ∷ 85 ∷ 78 ∷ 68 ∷ 69 ∷ 82 ∷ 83 ∷ 32 ∷ 49 ∷ 50 ∷ 32 ∷ 88 ∷ 32 ∷ 52 ∷ 55 ∷ 53 ∷ [])) tests.Twenty
-      (summary_of 12 12 1 3600000 3000000 400000 200000 1234567 true (ftp.Some 250)) 105 7 1700000000000 true)
+      (summary_of 12 12 1 3600000 3000000 400000 200000 1234567 true (Some 250)) 105 7 1700000000000 true)
   pub read_1 : decode_of
       ((86 ∷ 87 ∷ 75 ∷ 79 ∷ 2 ∷ 70 ∷ 105 ∷ 249 ∷ 7 ∷ 0 ∷ [])
       ++ ((0 ∷ 0 ∷ 0 ∷ 104 ∷ 229 ∷ 207 ∷ 139 ∷ 1 ∷ 0 ∷ 0 ∷ [])
@@ -163,7 +161,7 @@ pub record Samples : Type 0 where
       ++ ((107 ∷ 135 ∷ 157 ∷ 95 ∷ [])))))))))
       ≡ read_as
       (record_of (name_of (79 ∷ 86 ∷ 32 ∷ 32 ∷ 90 ∷ 123 ∷ 32 ∷ 96 ∷ 69 ∷ 82 ∷ 83 ∷ 32 ∷ 49 ∷ 50 ∷ 32 ∷ 88 ∷ 32 ∷ 52 ∷ 55 ∷ 53 ∷ [])) tests.Twenty
-      (summary_of 12 12 1 3600000 3000000 400000 200000 1234567 true ftp.None) 105 7 0 false)
+      (summary_of 12 12 1 3600000 3000000 400000 200000 1234567 true None) 105 7 0 false)
   pub read_2 : decode_of
       ((86 ∷ 87 ∷ 75 ∷ 79 ∷ 0 ∷ 70 ∷ 105 ∷ 7 ∷ 7 ∷ 0 ∷ [])
       ++ ((0 ∷ 0 ∷ 0 ∷ 104 ∷ 229 ∷ 207 ∷ 139 ∷ 1 ∷ 0 ∷ 0 ∷ [])
@@ -237,7 +235,7 @@ pub record Samples : Type 0 where
       ++ ((64 ∷ 13 ∷ 3 ∷ 0 ∷ 250 ∷ 0 ∷ 102 ∷ 35 ∷ 25 ∷ 155 ∷ []))))))))
       ≡ read_as
       (record_of (name_of (79 ∷ 86 ∷ 69 ∷ 82 ∷ 32 ∷ 85 ∷ 78 ∷ 68 ∷ 69 ∷ 82 ∷ 83 ∷ 32 ∷ 49 ∷ 50 ∷ 32 ∷ 88 ∷ 32 ∷ 52 ∷ 55 ∷ 53 ∷ [])) tests.Twenty
-      (summary_of 12 12 1 3600000 3000000 400000 200000 0 true (ftp.Some 250)) 105 7 1700000000000 true)
+      (summary_of 12 12 1 3600000 3000000 400000 200000 0 true (Some 250)) 105 7 1700000000000 true)
   pub read_10 : decode_of
       ((86 ∷ 87 ∷ 75 ∷ 79 ∷ 2 ∷ 70 ∷ 255 ∷ 7 ∷ 1 ∷ 2 ∷ [])
       ++ ((3 ∷ 4 ∷ 5 ∷ 6 ∷ 7 ∷ 8 ∷ 9 ∷ 10 ∷ 11 ∷ 12 ∷ [])
@@ -249,7 +247,7 @@ pub record Samples : Type 0 where
       ++ ((99 ∷ 119 ∷ 129 ∷ 74 ∷ [])))))))))
       ≡ read_as
       (record_of (name_of (65 ∷ 66 ∷ 67 ∷ 68 ∷ 69 ∷ 70 ∷ 71 ∷ 72 ∷ 73 ∷ 74 ∷ 75 ∷ 76 ∷ 77 ∷ 78 ∷ 79 ∷ 80 ∷ 81 ∷ 82 ∷ 83 ∷ [])) tests.Twenty
-      (summary_of 3597 4111 4625 370480147 437852183 505224219 572596255 673654309 true (ftp.Some 9251)) 255 67305985 867798387104613893 true)
+      (summary_of 3597 4111 4625 370480147 437852183 505224219 572596255 673654309 true (Some 9251)) 255 67305985 867798387104613893 true)
   pub read_11 : decode_of
       ((86 ∷ 87 ∷ 75 ∷ 79 ∷ 1 ∷ 70 ∷ 105 ∷ 7 ∷ 7 ∷ 0 ∷ [])
       ++ ((0 ∷ 0 ∷ 0 ∷ 104 ∷ 229 ∷ 207 ∷ 139 ∷ 1 ∷ 0 ∷ 0 ∷ [])
@@ -261,7 +259,7 @@ pub record Samples : Type 0 where
       ++ ((38 ∷ 154 ∷ 155 ∷ 22 ∷ [])))))))))
       ≡ read_as
       (record_of (name_of (79 ∷ 86 ∷ 69 ∷ 82 ∷ 32 ∷ 85 ∷ 78 ∷ 68 ∷ 69 ∷ 82 ∷ 83 ∷ 32 ∷ 49 ∷ 50 ∷ 32 ∷ 88 ∷ 32 ∷ 52 ∷ 55 ∷ 53 ∷ [])) tests.Twenty
-      (summary_of 12 12 1 3600000 3000000 400000 200000 0 true (ftp.Some 250)) 105 7 1700000000000 true)
+      (summary_of 12 12 1 3600000 3000000 400000 200000 0 true (Some 250)) 105 7 1700000000000 true)
   pub read_12 : decode_of
       ((86 ∷ 87 ∷ 75 ∷ 79 ∷ 2 ∷ 69 ∷ 105 ∷ 7 ∷ 7 ∷ 0 ∷ [])
       ++ ((0 ∷ 0 ∷ 0 ∷ 104 ∷ 229 ∷ 207 ∷ 139 ∷ 1 ∷ 0 ∷ 0 ∷ [])
@@ -273,7 +271,7 @@ pub record Samples : Type 0 where
       ++ ((146 ∷ 94 ∷ 232 ∷ [])))))))))
       ≡ read_as
       (record_of (name_of (79 ∷ 86 ∷ 69 ∷ 82 ∷ 32 ∷ 85 ∷ 78 ∷ 68 ∷ 69 ∷ 82 ∷ 83 ∷ 32 ∷ 49 ∷ 50 ∷ 32 ∷ 88 ∷ 32 ∷ 52 ∷ 55 ∷ 53 ∷ [])) tests.Twenty
-      (summary_of 12 12 1 3600000 3000000 400000 200000 0 true (ftp.Some 250)) 105 7 1700000000000 true)
+      (summary_of 12 12 1 3600000 3000000 400000 200000 0 true (Some 250)) 105 7 1700000000000 true)
   pub read_13 : decode_of
       ((86 ∷ 87 ∷ 75 ∷ 79 ∷ 2 ∷ 70 ∷ 105 ∷ 7 ∷ 7 ∷ 0 ∷ [])
       ++ ((0 ∷ 0 ∷ 0 ∷ 104 ∷ 229 ∷ 207 ∷ 139 ∷ 1 ∷ 0 ∷ 0 ∷ [])

@@ -23,18 +23,17 @@
 
 ghost use Rattle.std.specs.Prelude.{◌≡◌, ◌≤◌, ◌<◌, length, get_or};
 ghost use Rattle.power.specs.Power.{or_zero};
-ghost use Rattle.history.specs.Record.{start_at, start_ms, RecordSize};
+ghost use Rattle.history.specs.Record.{start_ms, RecordSize};
 ghost use Rattle.history.specs.Decode.{least_size, begins, is_whole, name_in, unread_in, summary_in, record_in, no_record, decode_of};
 ghost use Rattle.history.specs.Samples.{Samples};
 ghost use Rattle.history.specs.Unread.{UnreadByVersion};
 ghost use Rattle.history.specs.RoundTrip.{RecordTyped, WrittenIsRead, ReadFits};
 
-use decode::{TestOption, test_of};
+use decode::test_of;
 use model::Test;
 use names::{NAME_BYTES, Name};
-use power::{ReadingOption, reading_at};
 use readings::is_set;
-use refusal::{Answer, Refusal};
+use refusal::Refusal;
 use state::Summary;
 
 // The oldest version.
@@ -55,28 +54,21 @@ const DATED: u16 = 2;
 
 const MEASURED: u16 = 4;
 
-// When a ride started, UTC ms, if that is known.
-#[derive(Clone, Copy, Drop)]
-pub enum StartOption {
-    None,
-    Some(u64),
-}
-
 #[derive(Clone, Copy, Drop)]
 pub struct Record {
     // `i` for the internal journal, `b` for the bulk log.
     pub journal: u8,
     pub ride_id: u32,
-    pub started_utc_ms: StartOption,
+    pub started_utc_ms: Option<u64>,
     pub name: Name,
     pub test: Test,
     pub summary: Summary,
 }
 
-// The record read, or the refusal with a record of zeros.
+// The record read, or the refusal with a record of zeros: a struct and no `Result`, since document 01 wants that record (`no_record`).
 #[derive(Clone, Copy, Drop)]
 pub struct RecordRead {
-    pub answer: Answer,
+    pub answer: Result<(), Refusal>,
     pub record: Record,
 }
 
@@ -91,16 +83,6 @@ fn flags_of(byte: u8) -> u16
     ensures { result ≡ byte }
 {
     byte as u16
-}
-
-pub fn start_of(dated: bool, ms: u64) -> StartOption
-    ensures { result ≡ start_at dated ms }
-{
-    if dated {
-        StartOption::Some(ms)
-    } else {
-        StartOption::None
-    }
 }
 
 // "VWKO".
@@ -167,7 +149,7 @@ fn read_summary(bytes: &[u8]) -> Summary
         under_ms: le::get_u32(bytes, 56) as u64,
         over_ms: le::get_u32(bytes, 60) as u64,
         unread_ms: read_unread(bytes),
-        ftp: reading_at(is_set(flags, MEASURED), le::get_u16(bytes, 64)),
+        ftp: is_set(flags, MEASURED).then_some(le::get_u16(bytes, 64)),
         steps_done: le::get_u16(bytes, 42),
         steps: le::get_u16(bytes, 44),
         skipped: le::get_u16(bytes, 46),
@@ -182,7 +164,7 @@ fn read_record(bytes: &[u8], test: Test) -> Record
     Record {
         journal: bytes[6],
         ride_id: le::get_u32(bytes, 8),
-        started_utc_ms: start_of(is_set(flags_of(bytes[7]), DATED), le::get_u64(bytes, 12)),
+        started_utc_ms: is_set(flags_of(bytes[7]), DATED).then_some(le::get_u64(bytes, 12)),
         name: read_name(bytes),
         test,
         summary: read_summary(bytes),
@@ -193,11 +175,11 @@ fn no_record() -> RecordRead
     ensures { result ≡ no_record }
 {
     RecordRead {
-        answer: Answer::Refused(Refusal::Record),
+        answer: Err(Refusal::Record),
         record: Record {
             journal: 0,
             ride_id: 0,
-            started_utc_ms: StartOption::None,
+            started_utc_ms: None,
             name: Name::empty(),
             test: Test::None,
             summary: start::no_summary(0),
@@ -215,11 +197,11 @@ pub fn decode(bytes: &[u8]) -> RecordRead
     if (NAME_BYTES as u8) < bytes[20] {
         return no_record();
     }
-    let TestOption::Some(test) = test_of(bytes[41]) else {
+    let Some(test) = test_of(bytes[41]) else {
         return no_record();
     };
     RecordRead {
-        answer: Answer::Accepted,
+        answer: Ok(()),
         record: read_record(bytes, test),
     }
 }
@@ -251,21 +233,21 @@ pub fn read_fits()
     ensures { ReadFits }
 {}
 
-fn start_typed(start: StartOption)
+fn start_typed(start: Option<u64>)
     ensures { start_ms start < 18446744073709551616 }
 {
     match start {
-        StartOption::None => {}
-        StartOption::Some(_ms) => {}
+        None => {}
+        Some(_ms) => {}
     }
 }
 
-fn ftp_typed(ftp: ReadingOption)
+fn ftp_typed(ftp: Option<u16>)
     ensures { or_zero ftp < 65536 }
 {
     match ftp {
-        ReadingOption::None => {}
-        ReadingOption::Some(_watts) => {}
+        None => {}
+        Some(_watts) => {}
     }
 }
 

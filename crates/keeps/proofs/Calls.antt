@@ -1,4 +1,5 @@
 -- Each call keeps standing.
+use Rattle.std.specs.Prelude.{Err, Ok, Result, ⊤}
 use mathlib.Core.Path.{◌≡◌, refl, sym, subst}
 use mathlib.Core.Bool.{Bool, true, false, cond, ◌&&◌}
 use mathlib.Core.List.{List}
@@ -8,10 +9,9 @@ use lib.Dec.{leb, eqb}
 use lib.ListN.{length, length-take}
 use borrow.Author.Tests.{ltb-true, leb-true, lt-ltb, le-leb}
 use Rattle.common.proofs.Tests.{and_left, and_both}
-use Rattle.refusal.specs.declared.Answer.{Answer}
-use Rattle.refusal.specs.declared.Answer.TheVariants.{Accepted, Refused}
 use Rattle.refusal.specs.declared.Refusal.TheVariants as refusals
 use Rattle.refusal.specs.Number.{ask}
+use Rattle.refusal.specs.declared.Refusal.{Refusal}
 use Rattle.zones.specs.declared.TrainingProfile.{TrainingProfile}
 use Rattle.zones.specs.Zones.{profile_ok}
 use Rattle.model.specs.declared.Length.{Length}
@@ -43,7 +43,7 @@ use Rattle.keeps.proofs.Notes.{note-here}
 use Rattle.keeps.proofs.Rides.{rounds-stand}
 
 -- a workout that passes 5 to 9 plays something
-pub plays : (w : Workout) → length w.steps ≡ 12 → workout_answer w ≡ Accepted → 0 < played_len w
+pub plays : (w : Workout) → length w.steps ≡ 12 → workout_answer w ≡ Ok tt → 0 < played_len w
 unfolding played_len
 plays w twelve e = omega (arith, ltb-true 0 w.step_count (passes w e).some, length-take w.step_count w.steps)
 
@@ -57,7 +57,7 @@ module _ (p : Player) (e : standing_of p ≡ true) where
   read_kept sample = at (standing_of p) (cadence_in sample.cadence_tenths) refl
     where
       at : (b t : Bool) → cadence_in sample.cadence_tenths ≡ t
-          → standing_of (read_by (ask b refusals.Standing (ask t refusals.Cadence Accepted)) p sample).player ≡ true
+          → standing_of (read_by (ask b refusals.Standing (ask t refusals.Cadence (Ok tt))) p sample).player ≡ true
       at true true c =
           stands (with_core (read_core sample p.core) p)
           (record { core = read-stands p.workout p.core sample (known p e).core c; note = (known p e).note })
@@ -72,7 +72,7 @@ module _ (p : Player) (e : standing_of p ≡ true) where
     unfolding skip_now
     skip-now-kept = at p.core.done refl
       where
-        at : (t : Bool) → p.core.done ≡ t → standing_of (cond t (eventless Accepted p) (skip_to p (next_of p.workout true p.core))).player ≡ true
+        at : (t : Bool) → p.core.done ≡ t → standing_of (cond t (eventless (Ok tt) p) (skip_to p (next_of p.workout true p.core))).player ≡ true
         at true d = e
         at false d =
             made-stands p.workout (next_of p.workout true p.core).core p.minute some
@@ -95,7 +95,7 @@ rode-kept p ms mm f k v fits s =
     (rounds-stand w f 97 ms mm (totalled ms mm p.core) p.minute (totalled-stands w p.core ms mm s.stands s.total-ms s.total-mm) s.ms_in s.mm_in fits.power)
 
 module _ (p : Player) (ms mm : ℕ) (f : TrainingProfile) (k v : ℕ) (fits : PlayerFits p) (e : standing_of p ≡ true) where
-  now-kept : update_answer p.core ms mm k v ≡ Accepted → standing_of (ride_now p ms mm f).player ≡ true
+  now-kept : update_answer p.core ms mm k v ≡ Ok tt → standing_of (ride_now p ms mm f).player ≡ true
   unfolding ride_now
   now-kept u = at (eqb ms 0)
     where
@@ -106,17 +106,17 @@ module _ (p : Player) (ms mm : ℕ) (f : TrainingProfile) (k v : ℕ) (fits : Pl
   pub ride-kept : standing_of (ride_of p ms mm f k v).player ≡ true
   ride-kept = at (profile_ok f) refl (update_answer p.core ms mm k v) refl
     where
-      at : (t : Bool) → profile_ok f ≡ t → (a : Answer) → update_answer p.core ms mm k v ≡ a → standing_of (ride_of p ms mm f k v).player ≡ true
-      at true g Accepted u = subst (λ (o : Called). standing_of o.player ≡ true) (ride-taken p ms mm f k v e g u) (now-kept u)
-      at true g (Refused r) u = subst (λ (o : Called). standing_of o.player ≡ true) (ride-refused p ms mm f k v r e g u) e
+      at : (t : Bool) → profile_ok f ≡ t → (a : Result ⊤ Refusal) → update_answer p.core ms mm k v ≡ a → standing_of (ride_of p ms mm f k v).player ≡ true
+      at true g (Ok tt) u = subst (λ (o : Called). standing_of o.player ≡ true) (ride-taken p ms mm f k v e g u) (now-kept u)
+      at true g (Err r) u = subst (λ (o : Called). standing_of o.player ≡ true) (ride-refused p ms mm f k v r e g u) e
       at false g a u = subst (λ (o : Called). standing_of o.player ≡ true) (ride-10 p ms mm f k v e g) e
 
   module _ (sample : Sample) (power : PowerFits sample) where
-    add-now-kept : cadence_in sample.cadence_tenths ≡ true → update_answer p.core ms mm k v ≡ Accepted → standing_of (add_now p ms mm sample f).player ≡ true
+    add-now-kept : cadence_in sample.cadence_tenths ≡ true → update_answer p.core ms mm k v ≡ Ok tt → standing_of (add_now p ms mm sample f).player ≡ true
     unfolding add_now ride_now read_core taken
     add-now-kept c u = at (eqb ms 0)
       where
-        at : (t : Bool) → standing_of (cond t (eventless Accepted p) (ride_by t (with_core (read_core sample p.core) p) (rounds p.workout f 97 ms mm (riding (totalled ms mm (read_core sample p.core)) p.minute)))).player ≡ true
+        at : (t : Bool) → standing_of (cond t (eventless (Ok tt) p) (ride_by t (with_core (read_core sample p.core) p) (rounds p.workout f 97 ms mm (riding (totalled ms mm (read_core sample p.core)) p.minute)))).player ≡ true
         at true = e
         at false =
             rode-kept (with_core (read_core sample p.core) p) ms mm f k v (record { twelve = fits.twelve; power = power })
@@ -125,10 +125,10 @@ module _ (p : Player) (ms mm : ℕ) (f : TrainingProfile) (k v : ℕ) (fits : Pl
     pub add_kept : standing_of (add_of p ms mm sample f k v).player ≡ true
     add_kept = at (profile_ok f) refl (cadence_in sample.cadence_tenths) refl (update_answer p.core ms mm k v) refl
       where
-        at : (t : Bool) → profile_ok f ≡ t → (c : Bool) → cadence_in sample.cadence_tenths ≡ c → (a : Answer) → update_answer p.core ms mm k v ≡ a
+        at : (t : Bool) → profile_ok f ≡ t → (c : Bool) → cadence_in sample.cadence_tenths ≡ c → (a : Result ⊤ Refusal) → update_answer p.core ms mm k v ≡ a
             → standing_of (add_of p ms mm sample f k v).player ≡ true
-        at true g true c Accepted u = subst (λ (o : Called). standing_of o.player ≡ true) (add-taken p ms mm sample f k v e g c u) (add-now-kept c u)
-        at true g true c (Refused r) u = subst (λ (o : Called). standing_of o.player ≡ true) (add-refused p ms mm sample f k v r e g c u) e
+        at true g true c (Ok tt) u = subst (λ (o : Called). standing_of o.player ≡ true) (add-taken p ms mm sample f k v e g c u) (add-now-kept c u)
+        at true g true c (Err r) u = subst (λ (o : Called). standing_of o.player ≡ true) (add-refused p ms mm sample f k v r e g c u) e
         at true g false c a u = subst (λ (o : Called). standing_of o.player ≡ true) (add-11 p ms mm sample f k v e g c) e
         at false g c h a u = subst (λ (o : Called). standing_of o.player ≡ true) (add-10 p ms mm sample f k v e g) e
 
@@ -185,11 +185,11 @@ module _ (p : Player) (e : standing_of p ≡ true) (d : p.core.done ≡ false) w
       fits : ExtraFits p.core
       fits = extra-fits p e d
 
-      timed : (t : Bool) → leb (p.core.lap.extra_s + secs) 86400 ≡ t → standing_of (extended_by p (cond t (longer_core secs 0 p.core) (not_longer (Refused refusals.Extra) p.core))).player ≡ true
+      timed : (t : Bool) → leb (p.core.lap.extra_s + secs) 86400 ≡ t → standing_of (extended_by p (cond t (longer_core secs 0 p.core) (not_longer (Err refusals.Extra) p.core))).player ≡ true
       timed true t = longer-kept secs 0 (leb-true (p.core.lap.extra_s + secs) 86400 t) (omega (arith, fits.extra-m))
       timed false t = e
 
-      way : (t : Bool) → leb (p.core.lap.extra_m + metres) 1000000 ≡ t → standing_of (extended_by p (cond t (longer_core 0 metres p.core) (not_longer (Refused refusals.Extra) p.core))).player ≡ true
+      way : (t : Bool) → leb (p.core.lap.extra_m + metres) 1000000 ≡ t → standing_of (extended_by p (cond t (longer_core 0 metres p.core) (not_longer (Err refusals.Extra) p.core))).player ≡ true
       way true t = longer-kept 0 metres (omega (arith, fits.extra-s)) (leb-true (p.core.lap.extra_m + metres) 1000000 t)
       way false t = e
 
@@ -206,6 +206,6 @@ extend-kept p secs metres e = at (standing_of p)
     unfinished true d = e
     unfinished false d = by-kept p e d secs metres
 
-    at : (b : Bool) → standing_of (cond b (extend_now secs metres p.core.done p) (not_extended (Refused refusals.Standing) p)).player ≡ true
+    at : (b : Bool) → standing_of (cond b (extend_now secs metres p.core.done p) (not_extended (Err refusals.Standing) p)).player ≡ true
     at true = unfinished p.core.done refl
     at false = e

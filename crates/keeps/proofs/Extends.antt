@@ -1,10 +1,10 @@
 -- Extends that change nothing.
+use Rattle.std.specs.Prelude.{Err, Ok}
 use mathlib.Core.Path.{◌≡◌, refl, ap, ap₂, ◌∙◌}
 use mathlib.Core.Bool.{Bool, true, false, cond}
 use Prim.Native.Nat.{ℕ, ◌+◌}
 use native.Mathlib.Omega.{arith}
 use borrow.Author.Tests.{le-leb}
-use Rattle.refusal.specs.declared.Answer.TheVariants.{Accepted, Refused}
 use Rattle.refusal.specs.declared.Refusal.TheVariants as refusals
 use Rattle.model.specs.declared.Length.{Length}
 use Rattle.model.specs.declared.Length.TheVariants.{Time, Distance, Open}
@@ -21,21 +21,21 @@ longer-none p =
     let lap = p.core.lap in
     let s : lap.extra_s + 0 ≡ lap.extra_s = omega arith in
     let m : lap.extra_m + 0 ≡ lap.extra_m = omega arith in
-    ap₂ (λ (s m : ℕ). record { answer = Accepted; player = with_core (with_lap (record { step_ms = lap.step_ms; step_mm = lap.step_mm; extra_s = s; extra_m = m }) p.core) p; extended = true }) s m
+    ap₂ (λ (s m : ℕ). record { answer = (Ok tt); player = with_core (with_lap (record { step_ms = lap.step_ms; step_mm = lap.step_mm; extra_s = s; extra_m = m }) p.core) p; extended = true }) s m
 
 module _ (p : Player) (e : standing_of p ≡ true) where
   past-20 : (secs metres : ℕ) → extend_with secs metres p ≡ extend_now secs metres p.core.done p
   unfolding extend_with
-  past-20 secs metres = ap (λ (b : Bool). cond b (extend_now secs metres p.core.done p) (not_extended (Refused refusals.Standing) p)) e
+  past-20 secs metres = ap (λ (b : Bool). cond b (extend_now secs metres p.core.done p) (not_extended (Err refusals.Standing) p)) e
 
-  finished : (secs metres : ℕ) → p.core.done ≡ true → extend_with secs metres p ≡ not_extended Accepted p
+  finished : (secs metres : ℕ) → p.core.done ≡ true → extend_with secs metres p ≡ not_extended (Ok tt) p
   finished secs metres d = past-20 secs metres ∙ ap (λ (b : Bool). extend_now secs metres b p) d
 
-  open_step : (secs metres : ℕ) → p.core.on.length ≡ Open → extend_with secs metres p ≡ not_extended Accepted p
+  open_step : (secs metres : ℕ) → p.core.on.length ≡ Open → extend_with secs metres p ≡ not_extended (Ok tt) p
   unfolding extend_by extend_core
   open_step secs metres o = past-20 secs metres ∙ at p.core.done
     where
-      at : (d : Bool) → extend_now secs metres d p ≡ not_extended Accepted p
+      at : (d : Bool) → extend_now secs metres d p ≡ not_extended (Ok tt) p
       at true = refl
       at false = ap (λ (l : Length). extend_by secs metres l p) o
 
@@ -45,8 +45,8 @@ module _ (p : Player) (e : standing_of p ≡ true) where
         past-20 secs metres ∙ ap (λ (b : Bool). extend_now secs metres b p) d ∙ ap (λ (l : Length). extend_by secs metres l p) o
 
     -- what question 15 lets through adds nothing
-    passed : (t : Bool) → t ≡ true → extended_by p (cond t (longer_core 0 0 p.core) (not_longer (Refused refusals.Extra) p.core)) ≡ extended_by_none p
-    passed t f = ap (λ (t : Bool). extended_by p (cond t (longer_core 0 0 p.core) (not_longer (Refused refusals.Extra) p.core))) f ∙ longer-none p
+    passed : (t : Bool) → t ≡ true → extended_by p (cond t (longer_core 0 0 p.core) (not_longer (Err refusals.Extra) p.core)) ≡ extended_by_none p
+    passed t f = ap (λ (t : Bool). extended_by p (cond t (longer_core 0 0 p.core) (not_longer (Err refusals.Extra) p.core))) f ∙ longer-none p
 
     timed : (time metres : ℕ) → p.core.on.length ≡ Time time → extend_with 0 metres p ≡ extended_by_none p
     unfolding extend_by extend_core

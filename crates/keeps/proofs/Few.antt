@@ -1,4 +1,6 @@
 -- A call gives few events.
+use Rattle.std.specs.Prelude.{Err, Ok, Result, ⊤}
+use Rattle.refusal.specs.declared.Refusal.{Refusal}
 use mathlib.Core.Path.{◌≡◌, refl, sym, ap, ◌∙◌, subst}
 use mathlib.Core.Logic.{⊎_elim}
 use mathlib.Core.Bool.{Bool, true, false, cond}
@@ -8,8 +10,6 @@ use native.Mathlib.Omega.{arith}
 use lib.Dec.{eqb}
 use lib.ListN.{length, length-append}
 use borrow.Author.Tests.{eq-eqb}
-use Rattle.refusal.specs.declared.Answer.{Answer}
-use Rattle.refusal.specs.declared.Answer.TheVariants.{Accepted, Refused}
 use Rattle.zones.specs.declared.TrainingProfile.{TrainingProfile}
 use Rattle.zones.specs.Zones.{profile_ok}
 use Rattle.model.specs.declared.Length.{Length}
@@ -137,7 +137,7 @@ module _ (w : Workout) (p : TrainingProfile) where
 none : (p : Player) → Few p []
 none p = record { steps = omega arith; finished = λ _. refl; wanted = omega arith; places = omega arith }
 
-eventless-few : (p : Player) (a : Answer) (o : Called) → eventless a p ≡ o → Few p o.events
+eventless-few : (p : Player) (a : Result ⊤ Refusal) (o : Called) → eventless a p ≡ o → Few p o.events
 eventless-few p a o e = subst (λ (o : Called). Few p o.events) e (none p)
 
 called-few : (p : Player) (o o' : Called) → o ≡ o' → Few p o.events → Few p o'.events
@@ -182,11 +182,11 @@ module _ (p : Player) (ms mm : ℕ) (f : TrainingProfile) (k v : ℕ) (fits : Pl
   ride-few : Few p (ride_of p ms mm f k v).events
   ride-few = at (standing_of p) refl (profile_ok f) refl (update_answer p.core ms mm k v) refl
     where
-      at : (b : Bool) → standing_of p ≡ b → (t : Bool) → profile_ok f ≡ t → (a : Answer) → update_answer p.core ms mm k v ≡ a → Few p (ride_of p ms mm f k v).events
+      at : (b : Bool) → standing_of p ≡ b → (t : Bool) → profile_ok f ≡ t → (a : Result ⊤ Refusal) → update_answer p.core ms mm k v ≡ a → Few p (ride_of p ms mm f k v).events
       at false e t g a u = eventless-few p _ _ (ride-20 p ms mm f k v e)
       at true e false g a u = eventless-few p _ _ (ride-10 p ms mm f k v e g)
-      at true e true g (Refused r) u = eventless-few p _ _ (ride-refused p ms mm f k v r e g u)
-      at true e true g Accepted u =
+      at true e true g (Err r) u = eventless-few p _ _ (ride-refused p ms mm f k v r e g u)
+      at true e true g (Ok tt) u =
           called-few p _ _ (ride-taken p ms mm f k v e g u) (now-few (update-passed p.workout p.core ms mm k v (known p e).core u))
 
   module _ (sample : Sample) (power : PowerFits sample) where
@@ -195,20 +195,20 @@ module _ (p : Player) (ms mm : ℕ) (f : TrainingProfile) (k v : ℕ) (fits : Pl
     add-now-few c s = at (eqb ms 0)
       where
         at : (t : Bool)
-            → Few p (cond t (eventless Accepted p) (ride_by t (with_core (read_core sample p.core) p) (rounds p.workout f 97 ms mm (riding (totalled ms mm (read_core sample p.core)) p.minute)))).events
+            → Few p (cond t (eventless (Ok tt) p) (ride_by t (with_core (read_core sample p.core) p) (rounds p.workout f 97 ms mm (riding (totalled ms mm (read_core sample p.core)) p.minute)))).events
         at true = none p
         at false = rode-few p (read_core sample p.core) ms mm f k v refl refl refl power (read-supposes p.workout p.core sample ms mm k v s c)
 
     add-few : Few p (add_of p ms mm sample f k v).events
     add-few = at (standing_of p) refl (profile_ok f) refl (cadence_in sample.cadence_tenths) refl (update_answer p.core ms mm k v) refl
       where
-        at : (b : Bool) → standing_of p ≡ b → (t : Bool) → profile_ok f ≡ t → (i : Bool) → cadence_in sample.cadence_tenths ≡ i → (a : Answer)
+        at : (b : Bool) → standing_of p ≡ b → (t : Bool) → profile_ok f ≡ t → (i : Bool) → cadence_in sample.cadence_tenths ≡ i → (a : Result ⊤ Refusal)
             → update_answer p.core ms mm k v ≡ a → Few p (add_of p ms mm sample f k v).events
         at false e t g i c a u = eventless-few p _ _ (add-20 p ms mm sample f k v e)
         at true e false g i c a u = eventless-few p _ _ (add-10 p ms mm sample f k v e g)
         at true e true g false c a u = eventless-few p _ _ (add-11 p ms mm sample f k v e g c)
-        at true e true g true c (Refused r) u = eventless-few p _ _ (add-refused p ms mm sample f k v r e g c u)
-        at true e true g true c Accepted u =
+        at true e true g true c (Err r) u = eventless-few p _ _ (add-refused p ms mm sample f k v r e g c u)
+        at true e true g true c (Ok tt) u =
             called-few p _ _ (add-taken p ms mm sample f k v e g c u) (add-now-few c (update-passed p.workout p.core ms mm k v (known p e).core u))
 
 module _ (p : Player) (k v : ℕ) where
@@ -219,7 +219,7 @@ module _ (p : Player) (k v : ℕ) where
       never : false ≡ true → ⊥
       never z = let y : ◌≡◌ {A = ℕ} 0 1 = ap (λ (b : Bool). cond b 1 0) z in omega arith
 
-      at : (t : Bool) → p.core.done ≡ t → Few p (cond t (eventless Accepted p) (skip_to p (next_of p.workout true p.core))).events
+      at : (t : Bool) → p.core.done ≡ t → Few p (cond t (eventless (Ok tt) p) (skip_to p (next_of p.workout true p.core))).events
       at true d = none p
       at false d =
           let here : p.core.position < played_len p.workout = not-done-below 0 0 p.workout p.core (known p e).core.within d in

@@ -1,12 +1,12 @@
 -- Every call keeps the workout, and the last reading is one that was read: a player in memory stays one.
+use Rattle.std.specs.Prelude.{Err, Ok, Result, ⊤}
 use mathlib.Core.Path.{◌≡◌, refl, sym, ap, ◌∙◌, subst}
 use mathlib.Core.Bool.{Bool, true, false, cond}
 use Prim.Native.Nat.{ℕ, zero, suc, ◌+◌, ◌-◌}
 use lib.Dec.{leb, eqb}
 use lib.ListN.{length}
-use Rattle.refusal.specs.declared.Answer.{Answer}
-use Rattle.refusal.specs.declared.Answer.TheVariants.{Accepted, Refused}
 use Rattle.refusal.specs.declared.Refusal.TheVariants as refusals
+use Rattle.refusal.specs.declared.Refusal.{Refusal}
 use Rattle.zones.specs.declared.TrainingProfile.{TrainingProfile}
 use Rattle.model.specs.declared.Length.{Length}
 use Rattle.model.specs.declared.Length.TheVariants.{Time, Distance, Open}
@@ -64,17 +64,17 @@ fits_by p q w r fits =
     }
 
 module _ (p : Player) (fits : PlayerFits p) where
-  answered-fits : (a : Answer) (o : Called) → PlayerFits o.player → PlayerFits (answered a p o).player
-  answered-fits Accepted o f = f
-  answered-fits (Refused r) o f = fits
+  answered-fits : (a : Result ⊤ Refusal) (o : Called) → PlayerFits o.player → PlayerFits (answered a p o).player
+  answered-fits (Ok tt) o f = f
+  answered-fits (Err r) o f = fits
 
   pub read_fits : (sample : Sample) → PowerFits sample → PlayerFits (read_of p sample).player
   unfolding read_of read_core taken
   read_fits sample power = at (read_answer p sample)
     where
-      at : (a : Answer) → PlayerFits (read_by a p sample).player
-      at Accepted = record { twelve = fits.twelve; power = power }
-      at (Refused r) = fits
+      at : (a : Result ⊤ Refusal) → PlayerFits (read_by a p sample).player
+      at (Ok tt) = record { twelve = fits.twelve; power = power }
+      at (Err r) = fits
 
   pub ride-fits : (ms mm : ℕ) (f : TrainingProfile) (kinds values : ℕ) → PlayerFits (ride_of p ms mm f kinds values).player
   unfolding ride_of ride_now
@@ -92,7 +92,7 @@ module _ (p : Player) (fits : PlayerFits p) where
   unfolding skip_of skip_now next_of arrived
   skip-fits kinds values = answered-fits (skip_answer p kinds values) (skip_now p) (at p.core.done)
     where
-      at : (done : Bool) → PlayerFits (cond done (eventless Accepted p) (skip_to p (next_of p.workout true p.core))).player
+      at : (done : Bool) → PlayerFits (cond done (eventless (Ok tt) p) (skip_to p (next_of p.workout true p.core))).player
       at true = fits
       at false = fits_by p (skip_to p (next_of p.workout true p.core)).player refl refl fits
 
@@ -100,17 +100,17 @@ module _ (p : Player) (fits : PlayerFits p) where
   unfolding extend_with extend_by extend_core
   extend_fits secs metres = at (standing_of p) p.core.done p.core.on.length
     where
-      longer : (t : Bool) (secs metres : ℕ) → PlayerFits (extended_by p (cond t (longer_core secs metres p.core) (not_longer (Refused refusals.Extra) p.core))).player
+      longer : (t : Bool) (secs metres : ℕ) → PlayerFits (extended_by p (cond t (longer_core secs metres p.core) (not_longer (Err refusals.Extra) p.core))).player
       longer true secs metres = fits_by p (extended_by p (longer_core secs metres p.core)).player refl refl fits
-      longer false secs metres = fits_by p (extended_by p (not_longer (Refused refusals.Extra) p.core)).player refl refl fits
+      longer false secs metres = fits_by p (extended_by p (not_longer (Err refusals.Extra) p.core)).player refl refl fits
 
       by : (lasts : Length) → PlayerFits (extended_by p (extend_core secs metres lasts p.core)).player
       by (Time time) = longer (leb (p.core.lap.extra_s + secs) 86400) secs 0
       by (Distance way) = longer (leb (p.core.lap.extra_m + metres) 1000000) 0 metres
-      by Open = fits_by p (extended_by p (not_longer Accepted p.core)).player refl refl fits
+      by Open = fits_by p (extended_by p (not_longer (Ok tt) p.core)).player refl refl fits
 
       at : (stands done : Bool) (lasts : Length)
-          → PlayerFits (cond stands (cond done (not_extended Accepted p) (extended_by p (extend_core secs metres lasts p.core))) (not_extended (Refused refusals.Standing) p)).player
+          → PlayerFits (cond stands (cond done (not_extended (Ok tt) p) (extended_by p (extend_core secs metres lasts p.core))) (not_extended (Err refusals.Standing) p)).player
       at true true lasts = fits
       at true false lasts = by lasts
       at false done lasts = fits

@@ -1,4 +1,5 @@
 -- A fresh player of a workout that passes 5 to 9 stands, and one of the empty workout doesn't.
+use Rattle.std.specs.Prelude.{Ok, Result, ⊤, is_some}
 use mathlib.Core.Path.{◌≡◌, refl, sym, ap, ◌∙◌}
 use mathlib.Core.Bool.{Bool, true, false, ◌&&◌}
 use Prim.Native.Nat.{◌<◌}
@@ -6,16 +7,15 @@ use native.Mathlib.Omega.{arith}
 use lib.ListN.{length}
 use borrow.Author.Tests.{lt-leb, lt-ltb}
 use Rattle.common.proofs.Tests.{and_both}
-use Rattle.refusal.specs.declared.Answer.{Answer}
-use Rattle.refusal.specs.declared.Answer.TheVariants.{Accepted}
 use Rattle.refusal.specs.declared.Refusal.TheVariants as refusals
 use Rattle.refusal.specs.declared.Invalid.TheVariants as invalids
 use Rattle.refusal.specs.Number.{ask}
+use Rattle.refusal.specs.declared.Refusal.{Refusal}
 use Rattle.model.specs.declared.Step.{Step}
 use Rattle.model.specs.declared.Workout.{Workout}
 use Rattle.model.specs.Workout.{empty_workout}
 use Rattle.form.specs.Form.{form_ok}
-use Rattle.order.specs.Order.{played_of, played_len}
+use Rattle.order.specs.Order.{played_of, played_len, played_in}
 use Rattle.order.proofs.Within.{playing-order}
 use Rattle.validation.specs.Sound.{valid_answer, workout_answer}
 use Rattle.validation.proofs.Passes.{passes, played-sound}
@@ -31,16 +31,16 @@ use Rattle.keeps.specs.Keeps.{KeepsStanding}
 use Rattle.keeps.proofs.Notes.{name-itself, step-here}
 use Rattle.keeps.proofs.Calls.{plays, read_kept, skip-kept, ride-kept, add_kept, extend-kept}
 
-module _ (w : Workout) (twelve : length w.steps ≡ 12) (e : workout_answer w ≡ Accepted) where
+module _ (w : Workout) (twelve : length w.steps ≡ 12) (e : workout_answer w ≡ Ok tt) where
   some : 0 < played_len w
   some = plays w twelve e
 
-  core-stands : Stands 0 0 w (fresh_core (played_len w) (played_of w 0).played)
+  core-stands : Stands 0 0 w (fresh_core (played_len w) (played_in (played_of w 0)))
   unfolding on_place
   core-stands =
       let v = passes w e in
-      let found : (played_of w 0).found ≡ true = playing-order.played_below w v.blocks 0 ∙ lt-ltb 0 (played_len w) some in
-      let below = fresh-below (played_of w 0).played.step.length (played-sound w 0 v found) in
+      let found : is_some (played_of w 0) ≡ true = playing-order.played_below w v.blocks 0 ∙ lt-ltb 0 (played_len w) some in
+      let below = fresh-below (played_in (played_of w 0)).step.length (played-sound w 0 v found) in
       record {
         within =
             record {
@@ -52,7 +52,7 @@ module _ (w : Workout) (twelve : length w.steps ≡ 12) (e : workout_answer w �
               position = omega arith;
               done = sym (lt-leb (played_len w) 0 some);
               finished = refl;
-              step = same-itself (step_now (played_of w 0).played);
+              step = same-itself (step_now (played_in (played_of w 0)));
               tallies = refl;
               targeted = omega arith;
               step-ms = omega arith;
@@ -73,7 +73,7 @@ module _ (w : Workout) (twelve : length w.steps ≡ 12) (e : workout_answer w �
 
   fresh-stands : standing_of (fresh w) ≡ true
   unfolding fresh on_place
-  fresh-stands = stands (fresh w) (record { core = core-stands; note = name-itself (played_of w 0).played.step.note })
+  fresh-stands = stands (fresh w) (record { core = core-stands; note = name-itself (played_in (played_of w 0)).step.note })
 
   -- a fresh player is that of its core: its note is the one that is looked up
   pub fresh-made : fresh w ≡ player_of w (riding (fresh w).core (fresh w).minute)
@@ -83,15 +83,15 @@ module _ (w : Workout) (twelve : length w.steps ≡ 12) (e : workout_answer w �
       (sym (step-here 0 0 w (fresh w).core core-stands.within some))
 
 -- no step: 6, or 5
-empty-refused : (t : Bool) (rest : Answer) → accepted (ask t refusals.Field (ask false (refusals.Invalid invalids.NoSteps) rest)) ≡ false
+empty-refused : (t : Bool) (rest : Result ⊤ Refusal) → accepted (ask t refusals.Field (ask false (refusals.Invalid invalids.NoSteps) rest)) ≡ false
 empty-refused true rest = refl
 empty-refused false rest = refl
 
 empty-falls : standing_of (fresh empty_workout) ≡ false
 unfolding standing_of fresh workout_answer valid_answer empty_workout
 empty-falls =
-    ap (λ (t : Bool). t && (core_ok (played_len empty_workout) (fresh empty_workout).core && step_is (fresh empty_workout).core.on (fresh empty_workout).note (played_of empty_workout (on_place (fresh empty_workout).core)).played))
-    (empty-refused (form_ok empty_workout) (ask true (refusals.Invalid invalids.Block) Accepted))
+    ap (λ (t : Bool). t && (core_ok (played_len empty_workout) (fresh empty_workout).core && step_is (fresh empty_workout).core.on (fresh empty_workout).note (played_in (played_of empty_workout (on_place (fresh empty_workout).core)))))
+    (empty-refused (form_ok empty_workout) (ask true (refusals.Invalid invalids.Block) (Ok tt)))
 
 pub keeps-standing : KeepsStanding
 keeps-standing =

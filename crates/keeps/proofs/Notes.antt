@@ -1,4 +1,5 @@
 -- The step on now is the workout's step of its index, so its note is the one that is looked up.
+use Rattle.std.specs.Prelude.{None, Option, Some, is_some}
 use mathlib.Core.Path.{◌≡◌, refl, sym, ap, ◌∙◌, subst}
 use mathlib.Core.Bool.{Bool, true, false, cond, ◌&&◌}
 use mathlib.Core.List.{List, [], ◌∷◌}
@@ -14,10 +15,9 @@ use Rattle.names.specs.declared.Name.{Name}
 use Rattle.model.specs.declared.Step.{Step}
 use Rattle.model.specs.declared.Workout.{Workout}
 use Rattle.model.specs.Workout.{no_step, steps_of}
-use Rattle.order.specs.declared.PlaceOption.{PlaceOption}
-use Rattle.order.specs.declared.PlaceOption.TheVariants as place_option
-use Rattle.order.specs.declared.PlayedOption.{PlayedOption}
-use Rattle.order.specs.Order.{order_of, nth, nothing, step_at, played_by, played_of, played_len}
+use Rattle.order.specs.declared.Played.{Played}
+use Rattle.order.specs.declared.Place.{Place}
+use Rattle.order.specs.Order.{order_of, nth, nothing, step_at, played_by, played_of, played_len, played_in}
 use Rattle.order.proofs.Within.{playing-order}
 use Rattle.validation.proofs.Passes.{passes}
 use Rattle.steps.specs.Bytes.{intensity_kind}
@@ -40,17 +40,17 @@ unfolding same_name same_bytes
 name-itself n = and_both (eq-eqb n.len n.len refl) (bytes_same n.bytes n.bytes 0 (λ j. ap (λ (k : ℕ). get_or n.bytes k 0) (omega arith)))
 
 -- the step that is found is the workout's, of the index that is found with it
-found-step : (steps : List Step) (o : PlaceOption) → (played_by steps o).found ≡ true
-    → ((played_by steps o).played.index < length steps) × ((played_by steps o).played.step ≡ get_or steps (played_by steps o).played.index no_step)
+found-step : (steps : List Step) (o : Option Place) → is_some (played_by steps o) ≡ true
+    → ((played_in (played_by steps o)).index < length steps) × ((played_in (played_by steps o)).step ≡ get_or steps (played_in (played_by steps o)).index no_step)
 unfolding step_at
-found-step steps place_option.None t = let z : ◌≡◌ {A = ℕ} 0 1 = ap (λ (b : Bool). cond b 1 0) t in absurd (omega arith)
-found-step steps (place_option.Some p) t = at (ltb p.index (length steps)) refl t
+found-step steps None t = let z : ◌≡◌ {A = ℕ} 0 1 = ap (λ (b : Bool). cond b 1 0) t in absurd (omega arith)
+found-step steps (Some p) t = at (ltb p.index (length steps)) refl t
   where
-    made : PlayedOption
-    made = record { found = true; played = record { index = p.index; repetition = p.repetition; of = p.of; step = get_or steps p.index no_step } }
+    made : Option Played
+    made = Some (record { index = p.index; repetition = p.repetition; of = p.of; step = get_or steps p.index no_step })
 
-    at : (b : Bool) → ltb p.index (length steps) ≡ b → (cond b made nothing).found ≡ true
-        → ((cond b made nothing).played.index < length steps) × ((cond b made nothing).played.step ≡ get_or steps (cond b made nothing).played.index no_step)
+    at : (b : Bool) → ltb p.index (length steps) ≡ b → is_some (cond b made nothing) ≡ true
+        → ((played_in (cond b made nothing)).index < length steps) × ((played_in (cond b made nothing)).step ≡ get_or steps (played_in (cond b made nothing)).index no_step)
     at true e t = (ltb-true p.index (length steps) e, refl)
     at false e t = let z : ◌≡◌ {A = ℕ} 0 1 = ap (λ (b : Bool). cond b 1 0) t in absurd (omega arith)
 
@@ -75,20 +75,20 @@ module _ (x y : ℕ) (w : Workout) (c : Core) (h : Within x y w c) (some : 0 < p
       at false e = leb-false (played_len w) c.position (sym h.done ∙ e)
 
   -- the step that is looked up by the index of the step on now
-  pub step-here : get_or w.steps c.on.index no_step ≡ (played_of w (on_place c)).played.step
+  pub step-here : get_or w.steps c.on.index no_step ≡ (played_in (played_of w (on_place c))).step
   unfolding played_of
   step-here =
       let n = on_place c in
       let v = passes w h.valid in
-      let t : (played_of w n).found ≡ true = playing-order.played_below w v.blocks n ∙ lt-ltb n (played_len w) shown-below in
+      let t : is_some (played_of w n) ≡ true = playing-order.played_below w v.blocks n ∙ lt-ltb n (played_len w) shown-below in
       let s = found-step (steps_of w) (nth (order_of w) n) t in
-      let i = (played_of w n).played.index in
-      let index : c.on.index ≡ i = same_index c.on (step_now (played_of w n).played) h.step in
+      let i = (played_in (played_of w n)).index in
+      let index : c.on.index ≡ i = same_index c.on (step_now (played_in (played_of w n))) h.step in
       let below : i < w.step_count = omega (arith, s.0, length-take w.step_count w.steps) in
       ap (λ (k : ℕ). get_or w.steps k no_step) index ∙ sym (get_or-take w.step_count w.steps i no_step below) ∙ sym s.1
 
   -- and its note
-  pub note-here : same_name (get_or w.steps c.on.index no_step).note (played_of w (on_place c)).played.step.note ≡ true
+  pub note-here : same_name (get_or w.steps c.on.index no_step).note (played_in (played_of w (on_place c))).step.note ≡ true
   note-here =
       let note = (get_or w.steps c.on.index no_step).note in
       subst (λ (m : Step). same_name note m.note ≡ true) step-here (name-itself note)

@@ -1,14 +1,14 @@
 -- Arrays of exactly the length that question 14 wants.
+use Rattle.std.specs.Prelude.{Ok, Result, ⊤}
 use mathlib.Core.Path.{◌≡◌, refl, sym, ap, ◌∙◌}
 use mathlib.Core.Bool.{Bool, true, false, cond}
 use Prim.Native.Nat.{ℕ, ◌+◌, ◌-◌, ◌*◌, ◌≤◌, ◌<◌, min}
 use native.Mathlib.Omega.{arith}
 use borrow.Author.Tests.{le-leb}
 use Rattle.common.proofs.Tests.{and_both}
-use Rattle.refusal.specs.declared.Answer.{Answer}
-use Rattle.refusal.specs.declared.Answer.TheVariants.{Accepted}
 use Rattle.refusal.specs.declared.Refusal.TheVariants as refusals
 use Rattle.refusal.specs.Number.{ask}
+use Rattle.refusal.specs.declared.Refusal.{Refusal}
 use Rattle.zones.specs.declared.TrainingProfile.{TrainingProfile}
 use Rattle.zones.specs.Zones.{profile_ok}
 use Rattle.readings.specs.declared.Sample.{Sample}
@@ -48,8 +48,8 @@ same_by {A} p o f refused asks = at (standing_of p) refl
         ∙ ap f (enough p (wanted p) (wanted p) (omega arith) (omega arith) ∙ sym (passes-193 p e))
         ∙ sym (asks 193)
 
-abbrev update_by : Player → ℕ → ℕ → Bool → Answer
-update_by p ms mm places = ask (update_ok ms mm) refusals.Update (ask (totals_with p.core ms mm) refusals.Totals (ask places refusals.EventPlaces Accepted))
+abbrev update_by : Player → ℕ → ℕ → Bool → Result ⊤ Refusal
+update_by p ms mm places = ask (update_ok ms mm) refusals.Update (ask (totals_with p.core ms mm) refusals.Totals (ask places refusals.EventPlaces (Ok tt)))
 
 ride-same : (p : Player) (ms mm : ℕ) (f : TrainingProfile) → ride_of p ms mm f (wanted p) (wanted p) ≡ ride_of p ms mm f 193 193
 ride-same p ms mm f =
@@ -67,7 +67,7 @@ add_same p ms mm sample f =
 
 skip-same : (p : Player) → skip_of p (wanted p) (wanted p) ≡ skip_of p 193 193
 skip-same p =
-    same_by p (λ n. skip_of p n n) (λ places. answered (ask (standing_of p) refusals.Standing (ask places refusals.EventPlaces Accepted)) p (skip_now p))
+    same_by p (λ n. skip_of p n n) (λ places. answered (ask (standing_of p) refusals.Standing (ask places refusals.EventPlaces (Ok tt))) p (skip_now p))
     (λ e. sym (skip-20 p (wanted p) (wanted p) e) ∙ skip-20 p 193 193 e)
     (λ n. unfold skip_of skip_answer in refl)
 
@@ -78,13 +78,13 @@ too_few p k v h = at (places_ok p.core k v) refl
     at false e = e
     at true e = let a = places-enough p.core k v e in absurd (omega (arith, h, a.0, a.1))
 
-exact-taken : (p : Player) → standing_of p ≡ true → (skip_of p (wanted p) (wanted p)).answer ≡ Accepted
+exact-taken : (p : Player) → standing_of p ≡ true → (skip_of p (wanted p) (wanted p)).answer ≡ Ok tt
 unfolding skip_now
 exact-taken p e =
     sym (ap (λ (o : Called). o.answer) (skip-taken p (wanted p) (wanted p) e (enough p (wanted p) (wanted p) (omega arith) (omega arith))))
     ∙ at p.core.done (next_of p.workout true p.core)
   where
-    at : (done : Bool) (o : Outcome) → (cond done (eventless Accepted p) (skip_to p o)).answer ≡ Accepted
+    at : (done : Bool) (o : Outcome) → (cond done (eventless (Ok tt) p) (skip_to p o)).answer ≡ Ok tt
     at true o = refl
     at false o = refl
 

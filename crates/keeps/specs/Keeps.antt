@@ -1,7 +1,6 @@
 -- Document 01, 'Standing': "Every call keeps it." A player that stands stands after every call, and a fresh one of a workout that
 -- passes 5 to 9 stands.
-use Rattle.std.specs.Prelude.{◌≡◌, true, false, ℕ, ◌<◌, length}
-use Rattle.refusal.specs.declared.Answer.TheVariants.{Accepted}
+use Rattle.std.specs.Prelude.{◌≡◌, true, false, ℕ, ◌<◌, length, Ok}
 use Rattle.zones.specs.declared.TrainingProfile.{TrainingProfile}
 use Rattle.model.specs.declared.Workout.{Workout}
 use Rattle.model.specs.Workout.{empty_workout}
@@ -23,7 +22,7 @@ pub record PlayerFits (p : Player) : Type 0 where
   pub power : PowerFits p.core.readings.last_sample
 
 pub record KeepsStanding : Type 0 where
-  pub new : (w : Workout) → length w.steps ≡ 12 → workout_answer w ≡ Accepted → standing_of (fresh w) ≡ true
+  pub new : (w : Workout) → length w.steps ≡ 12 → workout_answer w ≡ Ok tt → standing_of (fresh w) ≡ true
   -- "a refused `new` a player of it, which doesn't stand"
   pub refused : standing_of (fresh empty_workout) ≡ false
   pub read : (p : Player) (sample : Sample) → standing_of p ≡ true → standing_of (read_of p sample).player ≡ true

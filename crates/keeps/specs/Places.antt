@@ -1,6 +1,5 @@
 -- Document 02, c: "With arrays of exactly that length each update gives the events it gave with 193."
-use Rattle.std.specs.Prelude.{◌≡◌, true, ℕ, ◌<◌, min}
-use Rattle.refusal.specs.declared.Answer.TheVariants.{Accepted, Refused}
+use Rattle.std.specs.Prelude.{◌≡◌, true, ℕ, ◌<◌, min, Err, Ok}
 use Rattle.refusal.specs.declared.Refusal.TheVariants as refusals
 use Rattle.zones.specs.declared.TrainingProfile.{TrainingProfile}
 use Rattle.readings.specs.declared.Sample.{Sample}
@@ -23,6 +22,6 @@ pub record SmallArrays : Type 0 where
   pub passed : (p : Player) → standing_of p ≡ true → places_ok p.core 193 193 ≡ true
   -- and neither array can have a place fewer
   pub fewer : (p : Player) (kinds values : ℕ) → standing_of p ≡ true → min kinds values < wanted p
-      → skip_of p kinds values ≡ eventless (Refused refusals.EventPlaces) p
+      → skip_of p kinds values ≡ eventless (Err refusals.EventPlaces) p
   -- what is lent exactly that much is taken
-  pub taken : (p : Player) → standing_of p ≡ true → (skip_of p (wanted p) (wanted p)).answer ≡ Accepted
+  pub taken : (p : Player) → standing_of p ≡ true → (skip_of p (wanted p) (wanted p)).answer ≡ Ok tt

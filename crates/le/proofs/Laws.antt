@@ -2,13 +2,13 @@
 use mathlib.Core.Path.{◌≡◌, refl, sym, ap, ap₂, ◌∙◌}
 use mathlib.Core.List.{List, [], ◌∷◌, ◌++◌, append_assoc}
 use Prim.Native.Nat.{ℕ, zero, suc, ◌+◌, ◌*◌, ◌/◌, ◌%◌, ◌^◌, ◌<◌, ◌≤◌}
-use native.Mathlib.Nat.{pow-suc, mul_comm, mul_assoc, suc-add, div-div-eq-div-mul, div-one, zero-add, one-le-pow, mod-eq_of_lt, add-zero}
+use native.Mathlib.Nat.{pow-suc, mul_comm, mul_assoc, div-div-eq-div-mul, div-one, add-zero}
 use native.Mathlib.Numerals.{add-one}
 use native.Mathlib.Omega.{arith}
-use lib.Arith.{mod-mul}
-use lib.Dec.{lit<}
 use lib.ListN.{length, take, drop, get_or, set, length-append, length-drop, take-append-drop}
-use lib.Seq.{drop-cons, take-add, drop-drop, take_at, drop_at, length-take-le, set_split, take-suc}
+use lib.Seq.{take-add, drop-drop, take_at, drop_at, length-take-le, set_split, take-suc, take-length}
+use Rattle.std.specs.Prelude.{slice_index}
+use Rattle.std.specs.Int.{byte_at, byte_worth, bytes_low_first, sum_through}
 use Rattle.le.specs.Le.{number_of, bytes_of, part, written, Bytes}
 
 -- Lists of bytes.
@@ -73,29 +73,45 @@ number_append (x ∷ a) b =
       ap (λ (n : ℕ). n * number_of b) (pow-suc 256 (length a) ∙ mul_comm (256 ^ length a) 256) ∙ mul_assoc 256 (256 ^ length a) (number_of b),
     )
 
--- j + k bytes are the j low ones and then the k high ones
-pub bytes-add : (j k v : ℕ) → bytes_of (j + k) v ≡ bytes_of j v ++ bytes_of k (v / 256 ^ j)
-unfolding bytes_of
-bytes-add zero k v = ap₂ bytes_of (zero-add k) (sym (div-one v))
-bytes-add (suc j) k v =
-    ap (λ (n : ℕ). bytes_of n v) (suc-add j k)
-    ∙ ap (λ (l : List ℕ). v % 256 ∷ l)
-    (bytes-add j k (v / 256)
-    ∙ ap (λ (x : ℕ). bytes_of j (v / 256) ++ bytes_of k x) (div-div-eq-div-mul v 256 (256 ^ j) ∙ ap (λ (x : ℕ). v / x) (mul_comm 256 (256 ^ j) ∙ sym (pow-suc 256 j))))
+-- std's numbers and bytes are these.
 
--- the j low bytes are those of the remainder
-pub bytes-mod : (j v : ℕ) → bytes_of j (v % 256 ^ j) ≡ bytes_of j v
+-- what std's byte i is worth, by its weight
+worth : (i b : ℕ) → byte_worth i b ≡ 256 ^ i * b
+worth zero b = omega arith
+worth (suc i) b = mul_comm b (256 ^ suc i)
+
+-- the number of the first k + 1 bytes
+number_through : (bs : List ℕ) (k : ℕ) → k < length bs → sum_through (λ i. byte_worth i (slice_index bs i)) k ≡ number_of (take (suc k) bs)
+unfolding number_of
+number_through [] k h = absurd (omega arith)
+number_through (b ∷ bs) zero h = omega arith
+number_through (b ∷ bs) (suc k) h =
+    let s = b ∷ bs in
+    ap₂ ◌+◌ (number_through s k (omega arith)) (worth (suc k) (get_or s (suc k) 0))
+    ∙ sym (ap number_of (take-suc s (suc k) 0 h)
+    ∙ number_append (take (suc k) s) (get_or s (suc k) 0 ∷ [])
+    ∙ ap₂ (λ (n x : ℕ). number_of (take (suc k) s) + 256 ^ n * x) (length-take-le (suc k) s (omega arith)) (omega arith))
+
+-- `from_le_bytes` of k + 1 bytes gives their number
+pub number-std : (bs : List ℕ) (k : ℕ) → length bs ≡ suc k → sum_through (λ i. byte_worth i (slice_index bs i)) k ≡ number_of bs
+number-std bs k h = number_through bs k (omega arith) ∙ ap number_of (ap (λ (n : ℕ). take n bs) (sym h) ∙ take-length bs)
+
+-- k bytes of a number from byte i on
+bytes_from : (i k v : ℕ) → bytes_low_first i k v ≡ bytes_of k (v / 256 ^ i)
 unfolding bytes_of
-bytes-mod zero v = refl
-bytes-mod (suc j) v =
-    let e = ap (λ (x : ℕ). v % x) (pow-suc 256 j) ∙ mod-mul v {m = 256 ^ j} {c = 256} (one-le-pow j 256 (lit< tt)) (lit< tt) in
-    ap₂ (λ (x : ℕ) (l : List ℕ). x ∷ l) (low e) (ap (bytes_of j) (high e) ∙ bytes-mod j (v / 256))
+bytes_from i zero v = refl
+bytes_from i (suc k) v =
+    ap₂ (λ (x : ℕ) (l : List ℕ). x ∷ l) (byte i v)
+    (bytes_from (suc i) k v
+    ∙ ap (bytes_of k) (ap (λ (x : ℕ). v / x) (pow-suc 256 i) ∙ sym (div-div-eq-div-mul v (256 ^ i) 256)))
   where
-    low : v % 256 ^ suc j ≡ (v / 256 % 256 ^ j) * 256 + v % 256 → (v % 256 ^ suc j) % 256 ≡ v % 256
-    low e = omega arith
+    byte : (i v : ℕ) → byte_at i v ≡ v / 256 ^ i % 256
+    byte zero v = ap (λ (x : ℕ). x % 256) (sym (div-one v))
+    byte (suc i) v = refl
 
-    high : v % 256 ^ suc j ≡ (v / 256 % 256 ^ j) * 256 + v % 256 → (v % 256 ^ suc j) / 256 ≡ v / 256 % 256 ^ j
-    high e = omega arith
+-- `to_le_bytes` of k bytes gives these
+pub bytes-std : (k v : ℕ) → bytes_low_first 0 k v ≡ bytes_of k v
+bytes-std k v = bytes_from 0 k v ∙ ap (bytes_of k) (div-one v)
 
 -- Reading.
 
@@ -106,19 +122,6 @@ length_part s at k h = length-take-le k (drop at s) (omega (arith, length-drop a
 -- a part of j + k elements is one of j and one of k
 pub part-add : (j k : ℕ) (s : List ℕ) (at : ℕ) → part s at (j + k) ≡ part s at j ++ part s (at + j) k
 part-add j k s at = take-add j k (drop at s) ∙ ap (λ (l : List ℕ). part s at j ++ take k l) (drop-drop j at s)
-
--- a number of one byte is the byte
-pub get-one : (s : List ℕ) (at : ℕ) → at < length s → number_of (part s at 1) ≡ get_or s at 0
-unfolding number_of
-get-one s at h = ap (λ (l : List ℕ). number_of (take 1 l)) (drop-cons s at 0 h) ∙ (omega arith)
-
--- a number of j + k bytes is read as one of j and one of k
-pub get-two : (j k : ℕ) (s : List ℕ) (at : ℕ) → at + j ≤ length s
-    → number_of (part s at j) + 256 ^ j * number_of (part s (at + j) k) ≡ number_of (part s at (j + k))
-get-two j k s at h =
-    sym (ap number_of (part-add j k s at)
-    ∙ number_append (part s at j) (part s (at + j) k)
-    ∙ ap (λ (n : ℕ). number_of (part s at j) + 256 ^ n * number_of (part s (at + j) k)) (length_part s at j h))
 
 -- Writing.
 
@@ -158,25 +161,6 @@ more d₀ at h bs cs n e p q = q ∙ ap (λ (d : List ℕ). written d n cs) p �
 -- one element stored is a run of one
 pub put_one : (d : List ℕ) (at v : ℕ) → at < length d → set d at v ≡ written d at (v ∷ [])
 put_one d at v h = set_split d at v h ∙ ap (λ (n : ℕ). take at d ++ (v ∷ drop n d)) (sym (add-one at))
-
--- a byte is its own run of one
-pub bytes_one : (v : ℕ) → v < 256 → bytes_of 1 v ≡ v ∷ []
-unfolding bytes_of
-bytes_one v h = ap (λ (x : ℕ). x ∷ []) (mod-eq_of_lt h)
-
--- a number of j + k bytes is written as one of j and one of k
-pub put_two : (j k : ℕ) (d : List ℕ) (at v : ℕ) → at ≤ length d
-    → written (written d at (bytes_of j (v % 256 ^ j))) (at + j) (bytes_of k (v / 256 ^ j)) ≡ written d at (bytes_of (j + k) v)
-put_two j k d at v h =
-    ap (λ (l : List ℕ). written (written d at l) (at + j) (bytes_of k (v / 256 ^ j))) (bytes-mod j v)
-    ∙ written-two d at (bytes_of j v) (bytes_of k (v / 256 ^ j)) (at + j) h (ap (λ (n : ℕ). at + n) (sym (length-bytes j v)))
-    ∙ ap (written d at) (sym (bytes-add j k v))
-
--- two bytes stored are a number of two bytes
-pub put-pair : (d : List ℕ) (at v : ℕ) → at ≤ length d → v < 65536 → written (written d at (v % 256 ∷ [])) (at + 1) (v / 256 ∷ []) ≡ written d at (bytes_of 2 v)
-put-pair d at v h l =
-    ap₂ (λ (x y : List ℕ). written (written d at x) (at + 1) y) (sym (bytes_one (v % 256) (omega arith))) (sym (bytes_one (v / 256) (omega arith)))
-    ∙ put_two 1 1 d at v h
 
 -- nothing written
 pub written_none : (d : List ℕ) (at : ℕ) → d ≡ written d at []

@@ -1,35 +1,46 @@
 // Little-endian numbers in slices of bytes: get and put of 2, 4 and 8 bytes, as firmware_services::le has them.
-// A wider one is two of half its width.
 #![tactic(auto)]
 
-ghost use Rattle.std.specs.Prelude.{◌≡◌, [], ◌∷◌, ◌+◌, ◌*◌, ◌≤◌, length};
+ghost use Rattle.std.specs.Prelude.{◌≡◌, [], ◌∷◌, ◌+◌, ◌≤◌, length};
 ghost use Rattle.le.specs.Le.{number_of, bytes_of, part, written, Inverse};
 
-fn from_le_bytes(low: u8, high: u8) -> u16
-    ensures { result ≡ low + 256 * high }
+// The N bytes from place `at` on.
+fn bytes_at<const N: usize>(bytes: &[u8], at: usize) -> [u8; N]
+    requires { at + N ≤ length bytes.now }
+    ensures { result ≡ part bytes.now at N }
 {
-    (low as u16) + (high as u16) * 256
+    let mut run = [0; N];
+    run.copy_from_slice(&bytes[at..at + N]);
+    run
+}
+
+// Stores N bytes from place `at` on.
+fn put_bytes<const N: usize>(bytes: &mut [u8], at: usize, run: [u8; N])
+    requires { at + N ≤ length bytes.old }
+    ensures { bytes.new ≡ written bytes.old at run.entry }
+{
+    bytes[at..at + N].copy_from_slice(&run);
 }
 
 pub fn get_u16(bytes: &[u8], at: usize) -> u16
     requires { at + 2 ≤ length bytes.now }
     ensures { result ≡ number_of (part bytes.now at 2) }
 {
-    from_le_bytes(bytes[at], bytes[at + 1])
+    u16::from_le_bytes(bytes_at(bytes, at))
 }
 
 pub fn get_u32(bytes: &[u8], at: usize) -> u32
     requires { at + 4 ≤ length bytes.now }
     ensures { result ≡ number_of (part bytes.now at 4) }
 {
-    (get_u16(bytes, at) as u32) + (get_u16(bytes, at + 2) as u32) * 65536
+    u32::from_le_bytes(bytes_at(bytes, at))
 }
 
 pub fn get_u64(bytes: &[u8], at: usize) -> u64
     requires { at + 8 ≤ length bytes.now }
     ensures { result ≡ number_of (part bytes.now at 8) }
 {
-    (get_u32(bytes, at) as u64) + (get_u32(bytes, at + 4) as u64) * 4294967296
+    u64::from_le_bytes(bytes_at(bytes, at))
 }
 
 pub fn put_u8(bytes: &mut [u8], at: usize, value: u8)
@@ -43,24 +54,21 @@ pub fn put_u16(bytes: &mut [u8], at: usize, value: u16)
     requires { at + 2 ≤ length bytes.old }
     ensures { bytes.new ≡ written bytes.old at (bytes_of 2 value) }
 {
-    put_u8(bytes, at, (value % 256) as u8);
-    put_u8(bytes, at + 1, (value / 256) as u8);
+    put_bytes(bytes, at, u16::to_le_bytes(value));
 }
 
 pub fn put_u32(bytes: &mut [u8], at: usize, value: u32)
     requires { at + 4 ≤ length bytes.old }
     ensures { bytes.new ≡ written bytes.old at (bytes_of 4 value) }
 {
-    put_u16(bytes, at, (value % 65536) as u16);
-    put_u16(bytes, at + 2, (value / 65536) as u16);
+    put_bytes(bytes, at, u32::to_le_bytes(value));
 }
 
 pub fn put_u64(bytes: &mut [u8], at: usize, value: u64)
     requires { at + 8 ≤ length bytes.old }
     ensures { bytes.new ≡ written bytes.old at (bytes_of 8 value) }
 {
-    put_u32(bytes, at, (value % 4294967296) as u32);
-    put_u32(bytes, at + 4, (value / 4294967296) as u32);
+    put_bytes(bytes, at, u64::to_le_bytes(value));
 }
 
 // Reading what was written gives the number, and writing what was read gives the bytes. It does nothing: its contract

@@ -1,17 +1,11 @@
 -- Document 01, 'Bench sheet': "`done 1 of 1 skipped 0 targeted 10000 in 10000 under 0 over 0 finished yes ftp none` (counts of steps,
 -- then ms; yes or no; watts or none). A refusal gives `refused 12 act 3` (number, act from 0) or `refused 4`." Text is a list of
 -- bytes, ASCII.
-use Rattle.std.specs.Prelude.{◌≡◌, Bool, true, false, cond, List, [], ◌∷◌, ◌++◌, ℕ, zero, suc, ◌+◌, ◌/◌, ◌%◌, ltb, length}
+use Rattle.std.specs.Prelude.{◌≡◌, Bool, true, false, cond, List, [], ◌∷◌, ◌++◌, ℕ, zero, suc, ◌+◌, ◌/◌, ◌%◌, ltb, length, Err, None, Ok, Option, Result, Some, ⊤}
 use Rattle.le.specs.Le.{written}
 use Rattle.refusal.specs.declared.Refusal.{Refusal}
-use Rattle.refusal.specs.declared.Answer.{Answer}
-use Rattle.refusal.specs.declared.Answer.TheVariants.{Accepted, Refused}
 use Rattle.refusal.specs.Number.{question_number}
-use Rattle.power.specs.declared.ReadingOption.{ReadingOption}
-use Rattle.power.specs.declared.ReadingOption.TheVariants as reading
 use Rattle.state.specs.declared.Summary.{Summary}
-use Rattle.sheet.specs.declared.ActOption.{ActOption}
-use Rattle.sheet.specs.declared.ActOption.TheVariants.{None, Some}
 use Rattle.replay.specs.declared.Ridden.{Ridden}
 
 -- A number in decimal, with no zeros in front.
@@ -107,9 +101,9 @@ yes_or_no true = yes_word
 yes_or_no false = no_word
 
 -- "watts or none"
-abbrev pub watts_or_none : ReadingOption → List ℕ
-watts_or_none reading.None = none_word
-watts_or_none (reading.Some watts) = decimal_of watts
+abbrev pub watts_or_none : Option ℕ → List ℕ
+watts_or_none None = none_word
+watts_or_none (Some watts) = decimal_of watts
 
 abbrev pub end_of : Summary → List ℕ
 end_of s = ((finished_word ++ yes_or_no s.finished) ++ ftp_word) ++ watts_or_none s.ftp
@@ -118,16 +112,16 @@ unfoldable pub summary_text : Summary → List ℕ
 summary_text s = (counts_of s ++ times_of s) ++ end_of s
 
 -- "act from 0", where a refusal names one
-abbrev pub act_text : ActOption → List ℕ
+abbrev pub act_text : Option ℕ → List ℕ
 act_text None = []
 act_text (Some act) = field_of act_word act
 
-unfoldable pub refusal_text : Refusal → ActOption → List ℕ
+unfoldable pub refusal_text : Refusal → Option ℕ → List ℕ
 refusal_text refusal act = field_of refused_word (question_number refusal) ++ act_text act
 
-abbrev pub outcome_by : Answer → ActOption → Summary → List ℕ
-outcome_by Accepted act s = summary_text s
-outcome_by (Refused refusal) act s = refusal_text refusal act
+abbrev pub outcome_by : Result ⊤ Refusal → Option ℕ → Summary → List ℕ
+outcome_by (Ok tt) act s = summary_text s
+outcome_by (Err refusal) act s = refusal_text refusal act
 
 unfoldable pub line_of : Ridden → List ℕ
 line_of r = outcome_by r.outcome.answer r.outcome.act r.summary ++ newline

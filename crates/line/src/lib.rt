@@ -6,10 +6,8 @@ ghost use Rattle.le.specs.Le.{written};
 ghost use Rattle.io.specs.Counts.{IsPrefixLen};
 ghost use Rattle.line.specs.Line.{decimal_of, field_of, counts_of, times_of, yes_or_no, watts_or_none, end_of, summary_text, act_text, refusal_text, outcome_by, line_of, Wrote};
 
-use power::ReadingOption;
-use refusal::{Answer, Refusal};
+use refusal::Refusal;
 use replay::Ridden;
-use sheet::ActOption;
 use state::Summary;
 
 // Room for the longest line: 64 bytes of words and eight numbers of at most 20 digits.
@@ -20,12 +18,9 @@ fn put_word(out: &mut [u8], at: usize, word: &[u8]) -> usize
     requires { at + length word.now ≤ length out.old }
     ensures { Wrote out.old at out.new result word.now }
 {
-    let mut i = 0;
-    while i < word.len() {
-        out[at + i] = word[i];
-        i += 1;
-    }
-    at + i
+    let end = at + word.len();
+    out[at..end].copy_from_slice(word);
+    end
 }
 
 fn put_number(out: &mut [u8], at: usize, n: u64) -> usize
@@ -79,14 +74,14 @@ fn put_yes_or_no(out: &mut [u8], at: usize, yes: bool) -> usize
     put_word(out, at, b"no")
 }
 
-fn put_watts(out: &mut [u8], at: usize, watts: ReadingOption) -> usize
+fn put_watts(out: &mut [u8], at: usize, watts: Option<u16>) -> usize
     requires { at + 20 ≤ length out.old }
     ensures wrote { Wrote out.old at out.new result (watts_or_none watts) }
     ensures upper_bound { result ≤ at + 20 }
 {
     match watts {
-        ReadingOption::None => put_word(out, at, b"none"),
-        ReadingOption::Some(w) => put_number(out, at, w as u64),
+        None => put_word(out, at, b"none"),
+        Some(w) => put_number(out, at, w as u64),
     }
 }
 
@@ -112,18 +107,18 @@ fn put_summary(out: &mut [u8], s: Summary) -> usize
     put_end(out, times, s)
 }
 
-fn put_act(out: &mut [u8], at: usize, act: ActOption) -> usize
+fn put_act(out: &mut [u8], at: usize, act: Option<u16>) -> usize
     requires { at + 25 ≤ length out.old }
     ensures wrote { Wrote out.old at out.new result (act_text act) }
     ensures upper_bound { result ≤ at + 25 }
 {
     match act {
-        ActOption::None => at,
-        ActOption::Some(i) => put_field(out, at, b" act ", i as u64),
+        None => at,
+        Some(i) => put_field(out, at, b" act ", i as u64),
     }
 }
 
-fn put_refusal(out: &mut [u8], refusal: Refusal, act: ActOption) -> usize
+fn put_refusal(out: &mut [u8], refusal: Refusal, act: Option<u16>) -> usize
     requires { 223 ≤ length out.old }
     ensures wrote { Wrote out.old 0 out.new result (refusal_text refusal act) }
     ensures upper_bound { result ≤ 223 }
@@ -133,14 +128,14 @@ fn put_refusal(out: &mut [u8], refusal: Refusal, act: ActOption) -> usize
     put_act(out, next, act)
 }
 
-fn put_outcome(out: &mut [u8], answer: Answer, act: ActOption, s: Summary) -> usize
+fn put_outcome(out: &mut [u8], answer: Result<(), Refusal>, act: Option<u16>, s: Summary) -> usize
     requires { 223 ≤ length out.old }
     ensures wrote { Wrote out.old 0 out.new result (outcome_by answer act s) }
     ensures upper_bound { result ≤ 223 }
 {
     match answer {
-        Answer::Accepted => put_summary(out, s),
-        Answer::Refused(refusal) => put_refusal(out, refusal, act),
+        Ok(()) => put_summary(out, s),
+        Err(refusal) => put_refusal(out, refusal, act),
     }
 }
 

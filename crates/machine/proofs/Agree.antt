@@ -1,12 +1,12 @@
 -- Two cuttings of one list in which nothing is refused bring the machine to the same state: a ride is its milliseconds, whatever its
 -- pieces.
+use Rattle.std.specs.Prelude.{Ok, Result, ⊤}
+use Rattle.refusal.specs.declared.Refusal.{Refusal}
 use mathlib.Core.Path.{◌≡◌, refl, sym, ap, ◌∙◌, subst}
 use mathlib.Core.List.{List, [], ◌∷◌}
 use Prim.Native.Nat.{ℕ}
 use native.Mathlib.Nat.{add-zero}
 use native.Mathlib.Omega.{arith}
-use Rattle.refusal.specs.declared.Answer.{Answer}
-use Rattle.refusal.specs.declared.Answer.TheVariants.{Accepted}
 use Rattle.zones.specs.declared.TrainingProfile.{TrainingProfile}
 use Rattle.model.specs.declared.Workout.{Workout}
 use Rattle.machine.specs.Machine.{Machine, step_at, reading, with_extra, extra_after, skipped, milliseconds}
@@ -18,11 +18,11 @@ use Rattle.machine.proofs.Unrefused.{accepted-left, accepted-right, list-unrefus
 
 module _ (w : Workout) (p : TrainingProfile) where
   -- a call that isn't a ride
-  unless-same : (a b : Answer) (f g : Progress) (after : Machine → Machine) → g.machine ≡ f.machine → a ≡ Accepted → b ≡ Accepted
+  unless-same : (a b : Result ⊤ Refusal) (f g : Progress) (after : Machine → Machine) → g.machine ≡ f.machine → a ≡ Ok tt → b ≡ Ok tt
       → (unless_refused a g (after g.machine)).machine ≡ (unless_refused b f (after f.machine)).machine
   unfolding unless_refused
   unless-same a b f g after e x y =
-      ap (λ (z : Answer). (unless_refused z g (after g.machine)).machine) x ∙ ap after e ∙ sym (ap (λ (z : Answer). (unless_refused z f (after f.machine)).machine) y)
+      ap (λ (z : Result ⊤ Refusal). (unless_refused z g (after g.machine)).machine) x ∙ ap after e ∙ sym (ap (λ (z : Result ⊤ Refusal). (unless_refused z f (after f.machine)).machine) y)
 
   -- a ride none of whose pieces is refused is its milliseconds
   ride-whole : (ms mm kinds values : ℕ) (es : List Piece) (s : Progress) → Cuts ms mm es → AllAccepted (pieces_ask w p kinds values es s)

@@ -1,7 +1,7 @@
 -- The relation between the player's core with its minute and the machine, and that a part of a step and a step's end keep it.
+use Rattle.std.specs.Prelude.{None, Some, is_some, Option}
 use mathlib.Core.Path.{◌≡◌, refl, sym, ap, ap₂, ◌∙◌, subst}
 use mathlib.Core.Bool.{Bool, true, false, cond, ◌&&◌}
-use mathlib.Core.Option.{Option, none, some}
 use mathlib.Core.List.{List, [], ◌∷◌, ◌++◌, append_assoc}
 use Prim.Native.Nat.{ℕ, ◌+◌, ◌*◌, ◌/◌, ◌≤◌, ◌<◌}
 use native.Mathlib.Omega.{arith}
@@ -17,8 +17,6 @@ use Rattle.model.specs.declared.Length.TheVariants.{Time, Distance, Open}
 use Rattle.model.specs.declared.Metric.{Metric}
 use Rattle.model.specs.declared.Metric.TheVariants as metrics
 use Rattle.model.specs.declared.Band.{Band}
-use Rattle.model.specs.declared.BandOption.{BandOption}
-use Rattle.model.specs.declared.BandOption.TheVariants as bands
 use Rattle.model.specs.declared.Target.{Target}
 use Rattle.model.specs.declared.Target.TheVariants.{Free, Ftp, Watts, HeartZone, Lthr, Cadence, Ramp, FtpRamp}
 use Rattle.model.specs.declared.Test.{Test}
@@ -28,10 +26,7 @@ use Rattle.model.specs.declared.Step.{Step}
 use Rattle.model.specs.declared.Workout.{Workout}
 use Rattle.model.specs.Target.{band_of, ramp_option}
 use Rattle.order.specs.declared.Played.{Played}
-use Rattle.order.specs.declared.PlayedOption.{PlayedOption}
 use Rattle.order.specs.Order.{played_of, played_len}
-use Rattle.power.specs.declared.ReadingOption.{ReadingOption}
-use Rattle.power.specs.declared.ReadingOption.TheVariants.{None, Some}
 use Rattle.readings.specs.declared.Sample.{Sample}
 use Rattle.readings.specs.declared.Readings.{Readings}
 use Rattle.readings.specs.declared.Compliance.TheVariants.{Under, In, Over}
@@ -61,7 +56,7 @@ use Rattle.machine.proofs.AtOnce.{Before, tally_by, sums_by, ridden_by}
 
 -- The relation.
 
-pub record SummaryIs (steps position skipped : ℕ) (ftp : ReadingOption) (t : Tallies) (s : Summary) : Type 0 where
+pub record SummaryIs (steps position skipped : ℕ) (ftp : Option ℕ) (t : Tallies) (s : Summary) : Type 0 where
   pub targeted : s.targeted_ms ≡ t.targeted
   pub inside : s.in_ms ≡ t.inside
   pub under : s.under_ms ≡ t.under
@@ -106,8 +101,8 @@ pub record Riding-on (s : Step) (c : Core) (m : Machine) : Type 0 where
 
 -- The step on now, or that all are done.
 abbrev pub Now : Option Step → Core → Machine → Type 0
-Now none c m = (c.done ≡ true) × (c.summary.finished ≡ true)
-Now (some s) c m = Riding-on s c m
+Now None c m = (c.done ≡ true) × (c.summary.finished ≡ true)
+Now (Some s) c m = Riding-on s c m
 
 pub record Alike (w : Workout) (b : Totals) (k : List Event) (s : Riding) (m : Machine) : Type 0 where
   pub matches : Matches w b k s m
@@ -146,7 +141,7 @@ judged_as (how.Some Under) = is_under
 judged_as (how.Some In) = is_in
 judged_as (how.Some Over) = is_over
 
-law-turns : (r : ReadingOption) → per_minute r ≡ turns r
+law-turns : (r : Option ℕ) → per_minute r ≡ turns r
 law-turns None = refl
 law-turns (Some tenths) = refl
 
@@ -178,19 +173,19 @@ reading-is metrics.Power r samples P e = average-is r.power samples P
 reading-is metrics.Heart r samples P e = ap (λ (x : Sample). x.heart_bpm) e
 reading-is metrics.Cadence r samples P e = ap (λ (x : Sample). per_minute x.cadence_tenths) e ∙ law-turns (newest samples).cadence_tenths
 
-judged-is : (target : Target) (b : Band) (p : TrainingProfile) (r : ReadingOption) → Zoned target → judged_as (judged target b p r) ≡ judge_if target b p r
+judged-is : (target : Target) (b : Band) (p : TrainingProfile) (r : Option ℕ) → Zoned target → judged_as (judged target b p r) ≡ judge_if target b p r
 unfolding judged
 judged-is target b p None z = refl
 judged-is target b p (Some value) z = law-judge target b p value z
 
-compliance-is : (target : Target) (band : BandOption) (p : TrainingProfile) (r : Readings) (samples : List Sample) → Zoned target → PowerIs r.power samples
+compliance-is : (target : Target) (band : Option Band) (p : TrainingProfile) (r : Readings) (samples : List Sample) → Zoned target → PowerIs r.power samples
     → r.last_sample ≡ newest samples → judged_as (compliance_of target band p r) ≡ judged_by target band p samples
 unfolding compliance_of
-compliance-is target bands.None p r samples z P e = refl
-compliance-is target (bands.Some band) p r samples z P e =
+compliance-is target None p r samples z P e = refl
+compliance-is target (Some band) p r samples z P e =
     judged-is target band p (reading_of band.metric r) z ∙ ap (judge_if target band p) (reading-is band.metric r samples P e)
 
-tallied-is : (c : ComplianceOption) (n steps position skipped : ℕ) (ftp : ReadingOption) (t : Tallies) (s : Summary)
+tallied-is : (c : ComplianceOption) (n steps position skipped : ℕ) (ftp : Option ℕ) (t : Tallies) (s : Summary)
     → SummaryIs steps position skipped ftp t s → SummaryIs steps position skipped ftp (tally_by (judged_as c) n t) (tallied c n s)
 unfolding tallied tally_by
 tallied-is NoBand n steps position skipped ftp t s R = R
@@ -274,7 +269,7 @@ test-is Recovery test = refl
 test-is Cooldown test = refl
 test-is intensities.Test test = refl
 
-or_same : (r : ReadingOption) → or_zero r ≡ zero_if_absent r
+or_same : (r : Option ℕ) → or_zero r ≡ zero_if_absent r
 or_same None = refl
 or_same (Some power) = refl
 
@@ -350,13 +345,13 @@ countdowns-left (Time secs) lap before =
 countdowns-left (Distance metres) lap before = unfold compared in refl
 countdowns-left Open lap before = unfold compared in refl
 
-end-events : (result : ReadingOption) (found : Bool) (played : Played) (n : ℕ)
-    → compared (player.ftp_events result ++ (after_event found n ∷ [])) ≡ ftp_events result ++ (next_event (step_of (record { found = found; played = played })) n ∷ [])
+end-events : (result : Option ℕ) (o : Option Played) (n : ℕ)
+    → compared (player.ftp_events result ++ (after_event (is_some o) n ∷ [])) ≡ ftp_events result ++ (next_event (step_of o) n ∷ [])
 unfolding compared
-end-events None true played n = refl
-end-events None false played n = refl
-end-events (Some watts) true played n = refl
-end-events (Some watts) false played n = refl
+end-events None (Some played) n = refl
+end-events None None n = refl
+end-events (Some watts) (Some played) n = refl
+end-events (Some watts) None n = refl
 
 pub join-events : (k es fs : List Event) → (k ++ compared es) ++ compared fs ≡ k ++ compared (es ++ fs)
 join-events k es fs = append_assoc k (compared es) (compared fs) ∙ ap (λ (x : List Event). k ++ x) (sym (compared-append es fs))
@@ -372,7 +367,7 @@ twenty-is (Time secs) lap extra t watts u e R =
 twenty-is (Distance metres) lap extra t watts u e R = refl
 twenty-is Open lap extra t watts u e R = refl
 
-ramp-is : (o : ReadingOption) → ramp_ftp o ≡ ramp_of o
+ramp-is : (o : Option ℕ) → ramp_ftp o ≡ ramp_of o
 ramp-is None = refl
 ramp-is (Some best) = refl
 
@@ -402,10 +397,10 @@ empty-is t watts u R =
       minute = record { size = R.minute.size; place = omega arith; full = refl; same = refl; best = unfold greatest in refl };
     }
 
-start_is : (found : Bool) (played : Played) (t : Measured) (watts : List ℕ) (u : Sums) → MeasuredIs t watts u
-    → MeasuredIs (measured_after (record { found = found; played = played }) t) watts (sums_at (step_of (record { found = found; played = played })) u)
-start_is true played t watts u R = empty-is t watts u R
-start_is false played t watts u R = R
+start_is : (o : Option Played) (t : Measured) (watts : List ℕ) (u : Sums) → MeasuredIs t watts u
+    → MeasuredIs (measured_after o t) watts (sums_at (step_of o) u)
+start_is (Some played) t watts u R = empty-is t watts u R
+start_is None t watts u R = R
 
 -- A step's end.
 
@@ -414,26 +409,26 @@ before-start (Time secs) h = omega arith
 before-start (Distance metres) h = absurd h
 before-start Open h = tt
 
-ftp-after : (result before : ReadingOption) → or_else result before ≡ ftp_after result before
+ftp-after : (result before : Option ℕ) → or_else result before ≡ ftp_after result before
 ftp-after None before = refl
 ftp-after (Some watts) before = refl
 
-module _ (w : Workout) (each : (i : ℕ) (s : Step) → step_at w i ≡ some s → Plain s) where
-  now-next : (found : Bool) (played : Played) (marked : Bool) (r : ReadingOption) (c : Core) (m : Machine) (s : Step)
-      → ((t : Step) → step_of (record { found = found; played = played }) ≡ some t → Plain t)
-      → Now (step_of (record { found = found; played = played })) (arrived (record { found = found; played = played }) marked r c) (ended w s marked m)
+module _ (w : Workout) (each : (i : ℕ) (s : Step) → step_at w i ≡ Some s → Plain s) where
+  now-next : (o : Option Played) (marked : Bool) (r : Option ℕ) (c : Core) (m : Machine) (s : Step)
+      → ((t : Step) → step_of o ≡ Some t → Plain t)
+      → Now (step_of o) (arrived o marked r c) (ended w s marked m)
   unfolding arrived ended
-  now-next true played marked r c m s h =
+  now-next (Some played) marked r c m s h =
       record {
         done = refl;
         finished = refl;
         on = record { length = refl; target = refl; intensity = refl };
         before = before-start played.step.length (h played.step refl).lasting;
       }
-  now-next false played marked r c m s h = (refl, refl)
+  now-next None marked r c m s h = (refl, refl)
 
   module _ (b : Totals) (k : List Event) (s : Step) (marked : Bool) (x : Riding) (m : Machine) (R : Matches w b k x m) (o : On s x.core) where
-    abbrev next : PlayedOption
+    abbrev next : Option Played
     next = played_of w (m.step.position + 1)
 
     abbrev outcome : Outcome
@@ -442,7 +437,7 @@ module _ (w : Workout) (each : (i : ℕ) (s : Step) → step_at w i ≡ some s �
     outcome-is : next_of w marked x.core ≡ outcome
     unfolding next_of
     outcome-is =
-        ap₂ (λ (n : ℕ) (r : ReadingOption). next_to (played_of w (n + 1)) marked r x.core) R.position (result-is w b k s x m R o marked)
+        ap₂ (λ (n : ℕ) (r : Option ℕ). next_to (played_of w (n + 1)) marked r x.core) R.position (result-is w b k s x m R o marked)
 
     next-matches : Matches w b (k ++ compared outcome.events) (riding outcome.core x.watts) (ended w s marked m)
     unfolding arrived ended step_at
@@ -463,20 +458,20 @@ module _ (w : Workout) (each : (i : ℕ) (s : Step) → step_at w i ≡ some s �
                 steps-are = R.summary.steps-are;
                 skipped-are = ap (λ (n : ℕ). n + cond marked 1 0) R.summary.skipped-are;
               };
-          measured = start_is next.found next.played x.core.measured x.watts m.sums R.measured;
+          measured = start_is next x.core.measured x.watts m.sums R.measured;
           power = R.power;
           last = R.last;
           events =
               ap₂ (λ (x y : List Event). x ++ y) R.events
-              (sym (ap (λ (n : ℕ). compared (player.ftp_events (result_in w s marked m) ++ (after_event next.found (n + 1) ∷ []))) R.position
-              ∙ end-events (result_in w s marked m) next.found next.played (m.step.position + 1)));
+              (sym (ap (λ (n : ℕ). compared (player.ftp_events (result_in w s marked m) ++ (after_event (is_some next) (n + 1) ∷ []))) R.position
+              ∙ end-events (result_in w s marked m) next (m.step.position + 1)));
           total-ms = R.total-ms;
           total-mm = R.total-mm;
         }
 
     next-now : Now (step_at w (ended w s marked m).step.position) outcome.core (ended w s marked m)
     unfolding ended step_at
-    next-now = now-next next.found next.played marked (result_in w s marked m) x.core m s (each (m.step.position + 1))
+    next-now = now-next next marked (result_in w s marked m) x.core m s (each (m.step.position + 1))
 
     pub next-is : Alike w b (k ++ compared (next_of w marked x.core).events) (riding (next_of w marked x.core).core x.watts) (ended w s marked m)
     next-is =

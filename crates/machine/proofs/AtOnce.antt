@@ -1,8 +1,8 @@
 -- Some milliseconds of the machine at once: within a step, to its end, after the finish; and a sum of milliseconds is one part after
 -- the other.
+use Rattle.std.specs.Prelude.{Option, None, Some}
 use mathlib.Core.Path.{◌≡◌, refl, sym, ap, ◌∙◌}
 use mathlib.Core.Bool.{Bool, true, false, cond}
-use mathlib.Core.Option.{none, some}
 use mathlib.Core.List.{List, ◌++◌}
 use Prim.Native.Nat.{ℕ, zero, suc, ◌+◌, ◌*◌, ◌/◌, ◌%◌, ◌≤◌, ◌<◌}
 use native.Mathlib.Nat.{zero-add, suc-add}
@@ -13,7 +13,6 @@ use borrow.Author.Tests.{eqb-true, eqb-false, eq-eqb, ne_eqb}
 use Rattle.zones.specs.declared.TrainingProfile.{TrainingProfile}
 use Rattle.model.specs.declared.Length.{Length}
 use Rattle.model.specs.declared.Length.TheVariants.{Time, Distance, Open}
-use Rattle.model.specs.declared.BandOption.{BandOption}
 use Rattle.model.specs.declared.Target.{Target}
 use Rattle.model.specs.declared.Target.TheVariants.{Free, Ftp, Watts, HeartZone, Lthr, Cadence, Ramp, FtpRamp}
 use Rattle.model.specs.declared.Test.{Test}
@@ -21,6 +20,7 @@ use Rattle.model.specs.declared.Test.TheVariants.{Twenty}
 use Rattle.model.specs.declared.Test.TheVariants as tests
 use Rattle.model.specs.declared.Step.{Step}
 use Rattle.model.specs.declared.Workout.{Workout}
+use Rattle.model.specs.declared.Band.{Band}
 use Rattle.model.specs.Target.{band_of}
 use Rattle.machine.specs.Machine.{Tallies, Sums, Machine, step_at, test_in, end_of, ended, Judged, is_under, is_in, is_over, is_unread, is_nothing, judged_by, judged_in, tally, last_power, rested, summed, ridden, ends_now, closed, millisecond_in, millisecond, milliseconds}
 use Rattle.machine.specs.ThirdDemand.{is_ramp}
@@ -178,7 +178,7 @@ module _ (w : Workout) (p : TrainingProfile) where
   milliseconds-add (suc a) b m = rw suc-add (milliseconds-add a b (millisecond w p m))
 
   -- after the finish
-  pub milliseconds-done : (n : ℕ) (m : Machine) → step_at w m.step.position ≡ none → milliseconds w p n m ≡ m
+  pub milliseconds-done : (n : ℕ) (m : Machine) → step_at w m.step.position ≡ None → milliseconds w p n m ≡ m
   unfolding milliseconds millisecond millisecond_in
   milliseconds-done zero m e = refl
   milliseconds-done (suc n) m e = rw e (milliseconds-done n m e)
@@ -193,7 +193,7 @@ module _ (w : Workout) (p : TrainingProfile) where
     by-more n m h =
         machine-path m (omega arith)
         (tally-more (judged_in p s m) n m.tallies
-        ∙ ap (λ (b : BandOption). tally_by (judged_by s.target b p m.readings) n (tally (judged_in p s m) m.tallies))
+        ∙ ap (λ (b : Option Band). tally_by (judged_by s.target b p m.readings) n (tally (judged_in p s m) m.tallies))
         (band-stays s.target p (m.step.time / 1000) ((m.step.time + 1) / 1000) f))
         (sums-more (test_in w s) (last_power m.readings) n m.sums h)
 
@@ -201,11 +201,11 @@ module _ (w : Workout) (p : TrainingProfile) where
     unfolding ridden
     ridden-small m h = summed-small (test_in w s) (last_power m.readings) m.sums h
 
-    one-within : (m : Machine) → step_at w m.step.position ≡ some s → Before s.length m.step.extra (m.step.time + 1) → millisecond w p m ≡ ridden w p s m
+    one-within : (m : Machine) → step_at w m.step.position ≡ Some s → Before s.length m.step.extra (m.step.time + 1) → millisecond w p m ≡ ridden w p s m
     unfolding millisecond millisecond_in closed ridden
     one-within m e h = rw (e, before-is s.length m.step.extra (m.step.time + 1) h) refl
 
-    one_end : (m : Machine) → step_at w m.step.position ≡ some s → EndsAt s.length m.step.extra (m.step.time + 1) → millisecond w p m ≡ ended w s false (ridden w p s m)
+    one_end : (m : Machine) → step_at w m.step.position ≡ Some s → EndsAt s.length m.step.extra (m.step.time + 1) → millisecond w p m ≡ ended w s false (ridden w p s m)
     unfolding millisecond millisecond_in closed ridden
     one_end m e h = rw (e, ends_is s.length m.step.extra (m.step.time + 1) h) refl
 
@@ -213,7 +213,7 @@ module _ (w : Workout) (p : TrainingProfile) where
     shift m n = omega arith
 
     -- within the step
-    pub milliseconds-within : (n : ℕ) (m : Machine) → m.sums.rest < 1000 → step_at w m.step.position ≡ some s → Before s.length m.step.extra (m.step.time + n)
+    pub milliseconds-within : (n : ℕ) (m : Machine) → m.sums.rest < 1000 → step_at w m.step.position ≡ Some s → Before s.length m.step.extra (m.step.time + n)
         → milliseconds w p n m ≡ ridden_by w p s n m
     unfolding milliseconds ridden
     milliseconds-within zero m r e h = sym (by-none m r)
@@ -223,7 +223,7 @@ module _ (w : Workout) (p : TrainingProfile) where
         ∙ sym (by-more n m r)
 
     -- to its end
-    pub milliseconds-end : (n : ℕ) (m : Machine) → m.sums.rest < 1000 → step_at w m.step.position ≡ some s → EndsAt s.length m.step.extra (m.step.time + suc n)
+    pub milliseconds-end : (n : ℕ) (m : Machine) → m.sums.rest < 1000 → step_at w m.step.position ≡ Some s → EndsAt s.length m.step.extra (m.step.time + suc n)
         → milliseconds w p (suc n) m ≡ ended w s false (ridden_by w p s (suc n) m)
     unfolding milliseconds ridden
     milliseconds-end zero m r e h = one_end m e h ∙ ap (ended w s false) (sym (by-more zero m r ∙ by-none (ridden w p s m) (ridden-small m r)))

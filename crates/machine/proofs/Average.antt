@@ -1,4 +1,5 @@
 -- The average's places read backwards from the next one are the newest three readings, absent before the first.
+use Rattle.std.specs.Prelude.{None, Option, Some, is_some}
 use mathlib.Core.Path.{◌≡◌, refl, sym, ap, ap₂, ◌∙◌}
 use mathlib.Core.Bool.{Bool}
 use mathlib.Core.List.{List, [], ◌∷◌, ◌++◌, map, reverse, reverse-cons}
@@ -8,15 +9,13 @@ use native.Mathlib.Omega.{arith}
 use lib.ListN.{length, take, drop, set, replicate, length-set, length-take, length-append, take-append-drop, length-map}
 use lib.Seq.{take-take}
 use Rattle.common.specs.Lists.{sum}
-use Rattle.power.specs.declared.ReadingOption.{ReadingOption}
-use Rattle.power.specs.declared.ReadingOption.TheVariants.{None, Some}
 use Rattle.readings.specs.declared.Sample.{Sample}
 use Rattle.power.specs.declared.Power3s.{Power3s}
-use Rattle.power.specs.Power.{or_zero, is_some, count_of, reading_at, window, mean_by, average, average_of, added}
+use Rattle.power.specs.Power.{or_zero, count_of, reading_at, window, mean_by, average, average_of, added}
 use Rattle.machine.specs.Machine.{if_present, present, average_watts, mean}
 use Rattle.machine.proofs.Seconds.{backwards, stored, sum-append}
 
-abbrev pub power_of : Sample → ReadingOption
+abbrev pub power_of : Sample → Option ℕ
 power_of sample = sample.power_watts
 
 pub record PowerIs (a : Power3s) (samples : List Sample) : Type 0 where
@@ -57,18 +56,18 @@ module _ {A : Type 0} (f : A → ℕ) where
 
 -- The window.
 
-reading-same : (r : ReadingOption) → reading_at (is_some r) (or_zero r) ≡ r
+reading-same : (r : Option ℕ) → reading_at (is_some r) (or_zero r) ≡ r
 reading-same None = refl
 reading-same (Some watts) = refl
 
-window-set : (i : ℕ) (r : ReadingOption) (bs : List Bool) (ws : List ℕ) → length bs ≡ length ws
+window-set : (i : ℕ) (r : Option ℕ) (bs : List Bool) (ws : List ℕ) → length bs ≡ length ws
     → window (set bs i (is_some r)) (set ws i (or_zero r)) ≡ set (window bs ws) i r
 unfolding window
 window-set i r [] [] e = refl
 window-set i r [] (x ∷ ws) e = absurd (omega (arith, e))
 window-set i r (c ∷ bs) [] e = absurd (omega (arith, e))
-window-set zero r (c ∷ bs) (x ∷ ws) e = ap (λ (o : ReadingOption). o ∷ window bs ws) (reading-same r)
-window-set (suc i) r (c ∷ bs) (x ∷ ws) e = ap (λ (l : List ReadingOption). reading_at c x ∷ l) (window-set i r bs ws (omega (arith, e)))
+window-set zero r (c ∷ bs) (x ∷ ws) e = ap (λ (o : Option ℕ). o ∷ window bs ws) (reading-same r)
+window-set (suc i) r (c ∷ bs) (x ∷ ws) e = ap (λ (l : List (Option ℕ)). reading_at c x ∷ l) (window-set i r bs ws (omega (arith, e)))
 
 window-length : (bs : List Bool) (ws : List ℕ) → length bs ≡ length ws → length (window bs ws) ≡ length ws
 unfolding window
@@ -89,12 +88,12 @@ take-front {A} (suc k) (x ∷ xs) ys = ap (λ (l : List A). x ∷ l) (take-front
 
 -- The player's sums over all readings, absent ones as 0, are the machine's over those present.
 
-one-sum : (r : ReadingOption) → sum (if_present r) ≡ or_zero r
+one-sum : (r : Option ℕ) → sum (if_present r) ≡ or_zero r
 unfolding sum
 one-sum None = refl
 one-sum (Some watts) = omega arith
 
-one-length : (r : ReadingOption) → length (if_present r) ≡ count_of r
+one-length : (r : Option ℕ) → length (if_present r) ≡ count_of r
 one-length None = refl
 one-length (Some watts) = refl
 
@@ -122,30 +121,30 @@ law-average samples = ap₂ mean_by (present-sum samples) (present-length sample
 pub average-is : (a : Power3s) (samples : List Sample) → PowerIs a samples → average_of a ≡ average_watts (present samples)
 unfolding average_of average
 average-is a samples R =
-    let held : List ReadingOption = window a.present a.watts in
+    let held : List (Option ℕ) = window a.present a.watts in
     let few : length (map power_of samples) ≤ 3 = rw (length-map samples power_of) R.few in
     ap₂ mean_by
-    (sym (total-backwards or_zero held a.next) ∙ ap (λ (l : List ReadingOption). sum (map or_zero l)) R.same ∙ total-padded or_zero None refl 3 3 (map power_of samples) few)
-    (sym (total-backwards count_of held a.next) ∙ ap (λ (l : List ReadingOption). sum (map count_of l)) R.same ∙ total-padded count_of None refl 3 3 (map power_of samples) few)
+    (sym (total-backwards or_zero held a.next) ∙ ap (λ (l : List (Option ℕ)). sum (map or_zero l)) R.same ∙ total-padded or_zero None refl 3 3 (map power_of samples) few)
+    (sym (total-backwards count_of held a.next) ∙ ap (λ (l : List (Option ℕ)). sum (map count_of l)) R.same ∙ total-padded count_of None refl 3 3 (map power_of samples) few)
     ∙ law-average samples
 
 module _ (sample : Sample) (a : Power3s) (samples : List Sample) (R : PowerIs a samples) where
-  abbrev r : ReadingOption
+  abbrev r : Option ℕ
   r = power_of sample
 
   same-added : backwards (window (set a.present a.next (is_some r)) (set a.watts a.next (or_zero r))) ((a.next + 1) % 3)
       ≡ r ∷ take 2 (map power_of (take 2 samples) ++ replicate 3 None)
   same-added =
-      let held : List ReadingOption = window a.present a.watts in
+      let held : List (Option ℕ) = window a.present a.watts in
       let l : length a.present ≡ length a.watts = R.present ∙ sym R.watts in
       let n : length held ≡ 3 = window-length a.present a.watts l ∙ R.watts in
       rw (window-set a.next r a.present a.watts l)
       (stored 2 a.next r held n R.place
-      ∙ ap (λ (xs : List ReadingOption). r ∷ xs)
+      ∙ ap (λ (xs : List (Option ℕ)). r ∷ xs)
       (ap (take 2) R.same
       ∙ take-take 2 3 (map power_of samples ++ replicate 3 None) (omega arith)
       ∙ sym (take-front 2 (map power_of samples) (replicate 3 None))
-      ∙ ap (λ (xs : List ReadingOption). take 2 (xs ++ replicate 3 None)) (sym (map-take power_of 2 samples))))
+      ∙ ap (λ (xs : List (Option ℕ)). take 2 (xs ++ replicate 3 None)) (sym (map-take power_of 2 samples))))
 
   -- "takes one reading a call"
   pub added_is : PowerIs (added sample.power_watts a) (take 3 (sample ∷ samples))

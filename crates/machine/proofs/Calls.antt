@@ -1,14 +1,12 @@
 -- Each call keeps the relation between player and machine, and gives the machine's own answer.
+use Rattle.std.specs.Prelude.{Err, None, Ok, Result, Some, ⊤, Option}
 use mathlib.Core.Path.{◌≡◌, refl, sym, ap, ap₂, ◌∙◌, subst}
 use mathlib.Core.Bool.{Bool, true, false, cond, ◌&&◌}
-use mathlib.Core.Option.{Option, none, some}
 use mathlib.Core.List.{List, ◌++◌, append-nil}
 use Prim.Native.Nat.{ℕ, ◌+◌, ◌-◌, ◌*◌, ◌≤◌}
 use native.Mathlib.Omega.{arith}
 use lib.Dec.{leb, eqb}
 use borrow.Author.Tests.{eqb-true}
-use Rattle.refusal.specs.declared.Answer.{Answer}
-use Rattle.refusal.specs.declared.Answer.TheVariants.{Accepted, Refused}
 use Rattle.refusal.specs.declared.Refusal.{Refusal}
 use Rattle.refusal.specs.declared.Refusal.TheVariants as refusals
 use Rattle.refusal.specs.Number.{ask}
@@ -19,8 +17,6 @@ use Rattle.model.specs.declared.Length.TheVariants.{Time, Distance, Open}
 use Rattle.model.specs.declared.Step.{Step}
 use Rattle.model.specs.declared.Workout.{Workout}
 use Rattle.order.specs.Order.{played_len}
-use Rattle.power.specs.declared.ReadingOption.{ReadingOption}
-use Rattle.power.specs.declared.ReadingOption.TheVariants.{None, Some}
 use Rattle.readings.specs.declared.Sample.{Sample}
 use Rattle.readings.specs.Readings.{taken}
 use Rattle.events.specs.Events.{Event}
@@ -50,19 +46,19 @@ pub record Same (w : Workout) (b : Totals) (k : List Event) (q : Player) (m : Ma
   pub alike : Alike w b k (riding q.core q.minute) m
 
 -- A call's answer, and the relation after it.
-pub record Goes (w : Workout) (k : List Event) (c : Called) (a : Answer) (s : Progress) : Type 0 where
+pub record Goes (w : Workout) (k : List Event) (c : Called) (a : Result ⊤ Refusal) (s : Progress) : Type 0 where
   pub answer : c.answer ≡ a
   pub same : Same w s.totals (k ++ compared c.events) c.player s.machine
 
-ask-passes : (t : Bool) (r : Refusal) (rest : Answer) → t ≡ true → ask t r rest ≡ rest
+ask-passes : (t : Bool) (r : Refusal) (rest : Result ⊤ Refusal) → t ≡ true → ask t r rest ≡ rest
 ask-passes t r rest e = ap (λ (b : Bool). ask b r rest) e
 
 module _ (w : Workout) (p : TrainingProfile) (T : Held w) (ok : profile_ok p ≡ true) where
-  goes_by : (k : List Event) {c c' : Called} {a : Answer} {s : Progress} → c ≡ c' → Goes w k c' a s → Goes w k c a s
+  goes_by : (k : List Event) {c c' : Called} {a : Result ⊤ Refusal} {s : Progress} → c ≡ c' → Goes w k c' a s → Goes w k c a s
   goes_by k {c} {c'} {a} {s} e G = subst (λ (x : Called). Goes w k x a s) (sym e) G
 
   -- a call that does nothing
-  idle : (k : List Event) (a : Answer) (q : Player) (s : Progress) → Same w s.totals k q s.machine → Goes w k (eventless a q) a s
+  idle : (k : List Event) (a : Result ⊤ Refusal) (q : Player) (s : Progress) → Same w s.totals k q s.machine → Goes w k (eventless a q) a s
   unfolding compared
   idle k a q s R = record { answer = refl; same = subst (λ (l : List Event). Same w s.totals l q s.machine) (sym (append-nil k)) R }
 
@@ -76,8 +72,8 @@ module _ (w : Workout) (p : TrainingProfile) (T : Held w) (ok : profile_ok p ≡
     -- question 14 wants as many places of both
 
     done-is : (o : Option Step) → Now o q.core m → q.core.done ≡ is_none o
-    done-is none n = n.0
-    done-is (some t) n = n.done
+    done-is None n = n.0
+    done-is (Some t) n = n.done
 
     wanted-are : event_places q.core ≡ places_wanted w m
     unfolding is_finished
@@ -91,20 +87,20 @@ module _ (w : Workout) (p : TrainingProfile) (T : Held w) (ok : profile_ok p ≡
 
     -- Read.
 
-    cadence-is : (r : ReadingOption) → cadence_in r ≡ cadence_ok r
+    cadence-is : (r : Option ℕ) → cadence_in r ≡ cadence_ok r
     cadence-is None = refl
     cadence-is (Some tenths) = refl
 
     read_answer_lem : (sample : Sample) → read_answer q sample ≡ read_asks sample
     unfolding read_answer
     read_answer_lem sample =
-        ask-passes (standing_of q) refusals.Standing (ask (cadence_in sample.cadence_tenths) refusals.Cadence Accepted) st
-        ∙ ap (λ (b : Bool). ask b refusals.Cadence Accepted) (cadence-is sample.cadence_tenths)
+        ask-passes (standing_of q) refusals.Standing (ask (cadence_in sample.cadence_tenths) refusals.Cadence (Ok tt)) st
+        ∙ ap (λ (b : Bool). ask b refusals.Cadence (Ok tt)) (cadence-is sample.cadence_tenths)
 
     read-now : (sample : Sample) (o : Option Step) → Now o q.core m → Now o (read_core sample q.core) (reading sample m)
     unfolding read_core reading
-    read-now sample none n = n
-    read-now sample (some t) n =
+    read-now sample None n = n
+    read-now sample (Some t) n =
         record { done = n.done; finished = n.finished; on = record { length = n.on.length; target = n.on.target; intensity = n.on.intensity }; before = n.before }
 
     read_same : (sample : Sample) → Same w s.totals k (with_core (read_core sample q.core) q) (reading sample m)
@@ -132,48 +128,48 @@ module _ (w : Workout) (p : TrainingProfile) (T : Held w) (ok : profile_ok p ≡
               };
         }
 
-    read-by : (sample : Sample) (a : Answer) → Goes w k (of_read (read_by a q sample)) a (unless_refused a s (reading sample m))
+    read-by : (sample : Sample) (a : Result ⊤ Refusal) → Goes w k (of_read (read_by a q sample)) a (unless_refused a s (reading sample m))
     unfolding unless_refused
-    read-by sample Accepted = idle k Accepted (with_core (read_core sample q.core) q) (record { machine = reading sample m; totals = s.totals }) (read_same sample)
-    read-by sample (Refused r) = idle k (Refused r) q s R
+    read-by sample (Ok tt) = idle k (Ok tt) (with_core (read_core sample q.core) q) (record { machine = reading sample m; totals = s.totals }) (read_same sample)
+    read-by sample (Err r) = idle k (Err r) q s R
 
     pub read_is : (sample : Sample) (qs : List Piece) → Goes w k (called p (read sample) q) (read_asks sample) (after_call w p (read sample) qs s)
     unfolding called after_call read_of
     read_is sample qs =
-        goes_by k (ap (λ (a : Answer). of_read (read_by a q sample)) (read_answer_lem sample)) (read-by sample (read_asks sample))
+        goes_by k (ap (λ (a : Result ⊤ Refusal). of_read (read_by a q sample)) (read_answer_lem sample)) (read-by sample (read_asks sample))
 
     -- Skip.
 
     skip-answer : (kinds values : ℕ) → skip_answer q kinds values ≡ skip_asks w kinds values s
     unfolding skip_answer
     skip-answer kinds values =
-        ask-passes (standing_of q) refusals.Standing (ask (player.places_ok q.core kinds values) refusals.EventPlaces Accepted) st
-        ∙ ap (λ (b : Bool). ask b refusals.EventPlaces Accepted) (places-are kinds values)
+        ask-passes (standing_of q) refusals.Standing (ask (player.places_ok q.core kinds values) refusals.EventPlaces (Ok tt)) st
+        ∙ ap (λ (b : Bool). ask b refusals.EventPlaces (Ok tt)) (places-are kinds values)
 
-    skip_by : (o : Option Step) → step_at w m.step.position ≡ o → Goes w k (skip_now q) Accepted (record { machine = skipped w o m; totals = s.totals })
+    skip_by : (o : Option Step) → step_at w m.step.position ≡ o → Goes w k (skip_now q) (Ok tt) (record { machine = skipped w o m; totals = s.totals })
     unfolding skip_now skipped
-    skip_by none e =
-        let n : Now none q.core m = subst (λ (o : Option Step). Now o q.core m) e R.alike.now in
-        goes_by k (cond-true q.core.done (eventless Accepted q) (skip_to q (next_of q.workout true q.core)) n.0)
-        (idle k Accepted q (record { machine = m; totals = s.totals }) R)
-    skip_by (some t) e =
-        let n : Now (some t) q.core m = subst (λ (o : Option Step). Now o q.core m) e R.alike.now in
+    skip_by None e =
+        let n : Now None q.core m = subst (λ (o : Option Step). Now o q.core m) e R.alike.now in
+        goes_by k (cond-true q.core.done (eventless (Ok tt) q) (skip_to q (next_of q.workout true q.core)) n.0)
+        (idle k (Ok tt) q (record { machine = m; totals = s.totals }) R)
+    skip_by (Some t) e =
+        let n : Now (Some t) q.core m = subst (λ (o : Option Step). Now o q.core m) e R.alike.now in
         goes_by k
-        (cond-false q.core.done (eventless Accepted q) (skip_to q (next_of q.workout true q.core)) n.done
+        (cond-false q.core.done (eventless (Ok tt) q) (skip_to q (next_of q.workout true q.core)) n.done
         ∙ ap (λ (v : Workout). skip_to q (next_of v true q.core)) R.workout)
         (record {
           answer = refl;
           same = record { workout = R.workout; alike = next-is w (each w T) s.totals k t true x m R.alike.matches n.on };
         })
 
-    skip-taken : (a : Answer) → Goes w k (answered a q (skip_now q)) a (unless_refused a s (skipped w (step_at w m.step.position) m))
+    skip-taken : (a : Result ⊤ Refusal) → Goes w k (answered a q (skip_now q)) a (unless_refused a s (skipped w (step_at w m.step.position) m))
     unfolding unless_refused
-    skip-taken Accepted = skip_by (step_at w m.step.position) refl
-    skip-taken (Refused r) = idle k (Refused r) q s R
+    skip-taken (Ok tt) = skip_by (step_at w m.step.position) refl
+    skip-taken (Err r) = idle k (Err r) q s R
 
     pub skip_is : (kinds values : ℕ) (qs : List Piece) → Goes w k (called p (skip kinds values) q) (skip_asks w kinds values s) (after_call w p (skip kinds values) qs s)
     unfolding called after_call skip_of
-    skip_is kinds values qs = goes_by k (ap (λ (a : Answer). answered a q (skip_now q)) (skip-answer kinds values)) (skip-taken (skip_asks w kinds values s))
+    skip_is kinds values qs = goes_by k (ap (λ (a : Result ⊤ Refusal). answered a q (skip_now q)) (skip-answer kinds values)) (skip-taken (skip_asks w kinds values s))
 
     -- Extend.
 
@@ -182,11 +178,11 @@ module _ (w : Workout) (p : TrainingProfile) (T : Held w) (ok : profile_ok p ≡
     later (Distance metres) time extra more h b = tt
     later Open time extra more h b = tt
 
-    longer-same : (t : Step) (secs : ℕ) → step_at w m.step.position ≡ some t → Same w s.totals k (longer_by secs 0 q).player (with_extra (some (m.step.extra + secs)) m)
+    longer-same : (t : Step) (secs : ℕ) → step_at w m.step.position ≡ Some t → Same w s.totals k (longer_by secs 0 q).player (with_extra (Some (m.step.extra + secs)) m)
     unfolding with_extra
     longer-same t secs e =
         let M = R.alike.matches in
-        let n : Now (some t) q.core m = subst (λ (o : Option Step). Now o q.core m) e R.alike.now in
+        let n : Now (Some t) q.core m = subst (λ (o : Option Step). Now o q.core m) e R.alike.now in
         record {
           workout = R.workout;
           alike =
@@ -205,7 +201,7 @@ module _ (w : Workout) (p : TrainingProfile) (T : Held w) (ok : profile_ok p ≡
                       total-mm = M.total-mm;
                     };
                 now =
-                    subst (λ (o : Option Step). Now o (longer_by secs 0 q).player.core (with_extra (some (m.step.extra + secs)) m)) (sym e)
+                    subst (λ (o : Option Step). Now o (longer_by secs 0 q).player.core (with_extra (Some (m.step.extra + secs)) m)) (sym e)
                     (record {
                       done = n.done;
                       finished = n.finished;
@@ -215,41 +211,41 @@ module _ (w : Workout) (p : TrainingProfile) (T : Held w) (ok : profile_ok p ≡
               };
         }
 
-    longer-by : (t : Step) (secs : ℕ) (b : Bool) → step_at w m.step.position ≡ some t
-        → Goes w k (of_extend (extended_by q (cond b (longer_core secs 0 q.core) (not_longer (Refused refusals.Extra) q.core)))) (ask b refusals.Extra Accepted)
-        (unless_refused (ask b refusals.Extra Accepted) s (with_extra (some (m.step.extra + secs)) m))
+    longer-by : (t : Step) (secs : ℕ) (b : Bool) → step_at w m.step.position ≡ Some t
+        → Goes w k (of_extend (extended_by q (cond b (longer_core secs 0 q.core) (not_longer (Err refusals.Extra) q.core)))) (ask b refusals.Extra (Ok tt))
+        (unless_refused (ask b refusals.Extra (Ok tt)) s (with_extra (Some (m.step.extra + secs)) m))
     unfolding unless_refused
     longer-by t secs true e =
-        idle k Accepted (longer_by secs 0 q).player (record { machine = with_extra (some (m.step.extra + secs)) m; totals = s.totals }) (longer-same t secs e)
-    longer-by t secs false e = idle k (Refused refusals.Extra) q s R
+        idle k (Ok tt) (longer_by secs 0 q).player (record { machine = with_extra (Some (m.step.extra + secs)) m; totals = s.totals }) (longer-same t secs e)
+    longer-by t secs false e = idle k (Err refusals.Extra) q s R
 
-    extend-in : (l : Length) (t : Step) (secs metres : ℕ) → Lasting l → step_at w m.step.position ≡ some t
+    extend-in : (l : Length) (t : Step) (secs metres : ℕ) → Lasting l → step_at w m.step.position ≡ Some t
         → Goes w k (of_extend (extend_by secs metres l q)) (extra_asks (extra_in l secs m.step.extra)) (unless_refused (extra_asks (extra_in l secs m.step.extra)) s (with_extra (extra_in l secs m.step.extra) m))
     unfolding extend_by extend_core
     extend-in (Time time) t secs metres y e =
         goes_by k
-        (ap (λ (z : ℕ). of_extend (extended_by q (cond (leb (z + secs) 86400) (longer_core secs 0 q.core) (not_longer (Refused refusals.Extra) q.core)))) R.alike.matches.extra)
+        (ap (λ (z : ℕ). of_extend (extended_by q (cond (leb (z + secs) 86400) (longer_core secs 0 q.core) (not_longer (Err refusals.Extra) q.core)))) R.alike.matches.extra)
         (longer-by t secs (leb (m.step.extra + secs) 86400) e)
     extend-in (Distance way) t secs metres y e = absurd y
-    extend-in Open t secs metres y e = unfold unless_refused with_extra in idle k Accepted q (record { machine = m; totals = s.totals }) R
+    extend-in Open t secs metres y e = unfold unless_refused with_extra in idle k (Ok tt) q (record { machine = m; totals = s.totals }) R
 
     extend-by : (o : Option Step) (secs metres : ℕ) → step_at w m.step.position ≡ o
-        → Goes w k (of_extend (cond q.core.done (not_extended Accepted q) (extend_by secs metres q.core.on.length q))) (extra_asks (extra_after o secs m.step.extra))
+        → Goes w k (of_extend (cond q.core.done (not_extended (Ok tt) q) (extend_by secs metres q.core.on.length q))) (extra_asks (extra_after o secs m.step.extra))
         (unless_refused (extra_asks (extra_after o secs m.step.extra)) s (with_extra (extra_after o secs m.step.extra) m))
-    extend-by none secs metres e =
-        let n : Now none q.core m = subst (λ (o : Option Step). Now o q.core m) e R.alike.now in
-        goes_by k (ap of_extend (cond-true q.core.done (not_extended Accepted q) (extend_by secs metres q.core.on.length q) n.0))
-        (unfold unless_refused with_extra in idle k Accepted q (record { machine = m; totals = s.totals }) R)
-    extend-by (some t) secs metres e =
-        let n : Now (some t) q.core m = subst (λ (o : Option Step). Now o q.core m) e R.alike.now in
+    extend-by None secs metres e =
+        let n : Now None q.core m = subst (λ (o : Option Step). Now o q.core m) e R.alike.now in
+        goes_by k (ap of_extend (cond-true q.core.done (not_extended (Ok tt) q) (extend_by secs metres q.core.on.length q) n.0))
+        (unfold unless_refused with_extra in idle k (Ok tt) q (record { machine = m; totals = s.totals }) R)
+    extend-by (Some t) secs metres e =
+        let n : Now (Some t) q.core m = subst (λ (o : Option Step). Now o q.core m) e R.alike.now in
         goes_by k
-        (ap of_extend (cond-false q.core.done (not_extended Accepted q) (extend_by secs metres q.core.on.length q) n.done ∙ ap (λ (l : Length). extend_by secs metres l q) n.on.length))
+        (ap of_extend (cond-false q.core.done (not_extended (Ok tt) q) (extend_by secs metres q.core.on.length q) n.done ∙ ap (λ (l : Length). extend_by secs metres l q) n.on.length))
         (extend-in t.length t secs metres (each w T m.step.position t e).lasting e)
 
     pub extend-is : (secs metres : ℕ) (qs : List Piece) → Goes w k (called p (extend secs metres) q) (extend_asks w secs s) (after_call w p (extend secs metres) qs s)
     unfolding called after_call extend_with
     extend-is secs metres qs =
-        goes_by k (ap of_extend (cond-true (standing_of q) (extend_now secs metres q.core.done q) (not_extended (Refused refusals.Standing) q) st))
+        goes_by k (ap of_extend (cond-true (standing_of q) (extend_now secs metres q.core.done q) (not_extended (Err refusals.Standing) q) st))
         (extend-by (step_at w m.step.position) secs metres refl)
 
     -- Ride, one piece.
@@ -261,12 +257,12 @@ module _ (w : Workout) (p : TrainingProfile) (T : Held w) (ok : profile_ok p ≡
         let totals : ℕ → ℕ → Bool = λ a b. leb (a + e.ms) 604800000 && leb (b + e.mm) 7000000000 in
         ask-passes (standing_of q) refusals.Standing (ask (profile_ok p) refusals.Profile (update_answer q.core e.ms e.mm kinds values)) st
         ∙ ask-passes (profile_ok p) refusals.Profile (update_answer q.core e.ms e.mm kinds values) ok
-        ∙ ap₂ (λ (t b : Bool). ask (piece_ok e) refusals.Update (ask t refusals.Totals (ask b refusals.EventPlaces Accepted)))
+        ∙ ap₂ (λ (t b : Bool). ask (piece_ok e) refusals.Update (ask t refusals.Totals (ask b refusals.EventPlaces (Ok tt))))
         (ap₂ totals M.total-ms M.total-mm) (places-are kinds values)
 
     totalled-now : (ms mm : ℕ) (o : Option Step) → Now o q.core m → Now o (totalled ms mm q.core) m
-    totalled-now ms mm none n = n
-    totalled-now ms mm (some t) n =
+    totalled-now ms mm None n = n
+    totalled-now ms mm (Some t) n =
         record { done = n.done; finished = n.finished; on = record { length = n.on.length; target = n.on.target; intensity = n.on.intensity }; before = n.before }
 
     totalled-is : (ms mm : ℕ) → Alike w (record { ms = s.totals.ms + ms; mm = s.totals.mm + mm }) k (riding (totalled ms mm q.core) q.minute) m
@@ -305,21 +301,21 @@ module _ (w : Workout) (p : TrainingProfile) (T : Held w) (ok : profile_ok p ≡
         }
 
     ride-by : (t : Bool) (e : Piece) → eqb e.ms 0 ≡ t
-        → Goes w k (ride_by t q (rode e)) Accepted
+        → Goes w k (ride_by t q (rode e)) (Ok tt)
         (record { machine = milliseconds w p e.ms m; totals = cond t s.totals (record { ms = s.totals.ms + e.ms; mm = s.totals.mm + e.mm }) })
     ride-by true e z =
-        let none : milliseconds w p e.ms m ≡ m = ap (λ (n : ℕ). milliseconds w p n m) (eqb-true e.ms 0 z) ∙ (unfold milliseconds in refl) in
-        idle k Accepted q (record { machine = milliseconds w p e.ms m; totals = s.totals })
-        (subst (λ (y : Machine). Same w s.totals k q y) (sym none) R)
+        let None : milliseconds w p e.ms m ≡ m = ap (λ (n : ℕ). milliseconds w p n m) (eqb-true e.ms 0 z) ∙ (unfold milliseconds in refl) in
+        idle k (Ok tt) q (record { machine = milliseconds w p e.ms m; totals = s.totals })
+        (subst (λ (y : Machine). Same w s.totals k q y) (sym None) R)
     ride-by false e z = record { answer = refl; same = rode-same e }
 
-    piece-by : (a : Answer) (e : Piece) → Goes w k (answered a q (ride_now q e.ms e.mm p)) a (after_piece w p a e s)
+    piece-by : (a : Result ⊤ Refusal) (e : Piece) → Goes w k (answered a q (ride_now q e.ms e.mm p)) a (after_piece w p a e s)
     unfolding after_piece ride_now with_piece
-    piece-by Accepted e = ride-by (eqb e.ms 0) e refl
-    piece-by (Refused r) e = idle k (Refused r) q s R
+    piece-by (Ok tt) e = ride-by (eqb e.ms 0) e refl
+    piece-by (Err r) e = idle k (Err r) q s R
 
     pub piece_is : (kinds values : ℕ) (e : Piece)
         → Goes w k (ride_of q e.ms e.mm p kinds values) (piece_asks w kinds values s e) (after_piece w p (piece_asks w kinds values s e) e s)
     unfolding ride_of
     piece_is kinds values e =
-        goes_by k (ap (λ (a : Answer). answered a q (ride_now q e.ms e.mm p)) (ride-answer kinds values e)) (piece-by (piece_asks w kinds values s e) e)
+        goes_by k (ap (λ (a : Result ⊤ Refusal). answered a q (ride_now q e.ms e.mm p)) (ride-answer kinds values e)) (piece-by (piece_asks w kinds values s e) e)

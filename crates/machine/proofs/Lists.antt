@@ -1,18 +1,17 @@
 -- A whole list: the player's run keeps the relation with the machine's, and gives its answers, call by call.
+use Rattle.std.specs.Prelude.{Err, Ok, Result, ⊤, Option, None, Some}
+use Rattle.refusal.specs.declared.Refusal.{Refusal}
 use mathlib.Core.Path.{◌≡◌, refl, sym, ap, ap₂, ◌∙◌, subst}
 use mathlib.Core.Bool.{Bool, true, false, cond}
-use mathlib.Core.Option.{Option, none, some}
 use mathlib.Core.List.{List, [], ◌∷◌, ◌++◌, map, append_assoc, append-nil}
 use Prim.Native.Nat.{ℕ, zero, suc, ◌+◌}
 use native.Mathlib.Omega.{arith}
 use lib.ListN.{length, length-replicate}
-use Rattle.refusal.specs.declared.Answer.{Answer}
-use Rattle.refusal.specs.declared.Answer.TheVariants.{Accepted, Refused}
 use Rattle.zones.specs.declared.TrainingProfile.{TrainingProfile}
 use Rattle.zones.specs.Zones.{profile_ok}
 use Rattle.model.specs.declared.Step.{Step}
 use Rattle.model.specs.declared.Workout.{Workout}
-use Rattle.order.specs.Order.{played_of}
+use Rattle.order.specs.Order.{played_of, played_in}
 use Rattle.readings.specs.declared.Sample.{Sample}
 use Rattle.power.specs.Power.{window}
 use Rattle.events.specs.Events.{Event}
@@ -44,8 +43,8 @@ closed-readings w s false m = refl
 
 one-readings : (w : Workout) (p : TrainingProfile) (o : Option Step) (m : Machine) → (millisecond_in w p o m).readings ≡ m.readings
 unfolding millisecond_in closed ridden
-one-readings w p none m = refl
-one-readings w p (some s) m = closed-readings w s (ends_now s.length m.step.extra (m.step.time + 1)) (ridden w p s m)
+one-readings w p None m = refl
+one-readings w p (Some s) m = closed-readings w s (ends_now s.length m.step.extra (m.step.time + 1)) (ridden w p s m)
 
 readings-stay : (w : Workout) (p : TrainingProfile) (n : ℕ) (m : Machine) → (milliseconds w p n m).readings ≡ m.readings
 unfolding milliseconds millisecond
@@ -54,26 +53,26 @@ readings-stay w p (suc n) m = readings-stay w p n (millisecond_in w p (step_at w
 
 skip-readings : (w : Workout) (o : Option Step) (m : Machine) → (skipped w o m).readings ≡ m.readings
 unfolding skipped ended
-skip-readings w none m = refl
-skip-readings w (some s) m = refl
+skip-readings w None m = refl
+skip-readings w (Some s) m = refl
 
 extra-readings : (o : Option ℕ) (m : Machine) → (with_extra o m).readings ≡ m.readings
 unfolding with_extra
-extra-readings none m = refl
-extra-readings (some extra) m = refl
+extra-readings None m = refl
+extra-readings (Some extra) m = refl
 
-unless-fits : (a : Answer) (s : Progress) (m : Machine) → Fits s.machine → Fits m → Fits (unless_refused a s m).machine
+unless-fits : (a : Result ⊤ Refusal) (s : Progress) (m : Machine) → Fits s.machine → Fits m → Fits (unless_refused a s m).machine
 unfolding unless_refused
-unless-fits Accepted s m f g = g
-unless-fits (Refused r) s m f g = f
+unless-fits (Ok tt) s m f g = g
+unless-fits (Err r) s m f g = f
 
 fits_by : (m m' : Machine) → m'.readings ≡ m.readings → Fits m → Fits m'
 fits_by m m' e f = subst (λ (samples : List Sample). PowerFits (newest samples)) (sym e) f
 
-piece-fits : (w : Workout) (p : TrainingProfile) (a : Answer) (e : Piece) (s : Progress) → Fits s.machine → Fits (after_piece w p a e s).machine
+piece-fits : (w : Workout) (p : TrainingProfile) (a : Result ⊤ Refusal) (e : Piece) (s : Progress) → Fits s.machine → Fits (after_piece w p a e s).machine
 unfolding after_piece
-piece-fits w p Accepted e s f = fits_by s.machine (milliseconds w p e.ms s.machine) (readings-stay w p e.ms s.machine) f
-piece-fits w p (Refused r) e s f = f
+piece-fits w p (Ok tt) e s f = fits_by s.machine (milliseconds w p e.ms s.machine) (readings-stay w p e.ms s.machine) f
+piece-fits w p (Err r) e s f = f
 
 pieces-fit : (w : Workout) (p : TrainingProfile) (kinds values : ℕ) (es : List Piece) (s : Progress) → Fits s.machine → Fits (after_pieces w p kinds values es s).machine
 unfolding after_pieces
@@ -117,7 +116,7 @@ module _ (p : TrainingProfile) where
   run-answers : (xs ys : List Call) (q : Player) → (run p (xs ++ ys) q).answers ≡ (run p xs q).answers ++ (run p ys (run p xs q).player).answers
   unfolding run
   run-answers [] ys q = refl
-  run-answers (c ∷ xs) ys q = ap (λ (l : List Answer). (called p c q).answer ∷ l) (run-answers xs ys (called p c q).player)
+  run-answers (c ∷ xs) ys q = ap (λ (l : List (Result ⊤ Refusal)). (called p c q).answer ∷ l) (run-answers xs ys (called p c q).player)
 
 -- The run.
 
@@ -129,7 +128,7 @@ module _ (w : Workout) (p : TrainingProfile) (T : Held w) (ok : profile_ok p ≡
     pub fits : Fits s.machine
 
   -- A run, and the machine's answers and state.
-  pub record RunIs (k : List Event) (r : Run) (xa : List Answer) (s : Progress) : Type 0 where
+  pub record RunIs (k : List Event) (r : Run) (xa : List (Result ⊤ Refusal)) (s : Progress) : Type 0 where
     pub answers : r.answers ≡ xa
     pub after : After (k ++ compared r.events) r.player s
 
@@ -146,24 +145,24 @@ module _ (w : Workout) (p : TrainingProfile) (T : Held w) (ok : profile_ok p ≡
   unfolding compared
   none_yet k q s A = subst (λ (l : List Event). After l q s) (sym (append-nil k)) A
 
-  one-call : (k : List Event) (c : Call) (q : Player) (a : Answer) (s' : Progress) → Goes w k (called p c q) a s' → standing_of (called p c q).player ≡ true
+  one-call : (k : List Event) (c : Call) (q : Player) (a : Result ⊤ Refusal) (s' : Progress) → Goes w k (called p c q) a s' → standing_of (called p c q).player ≡ true
       → Fits s'.machine → RunIs k (run p (c ∷ []) q) (a ∷ []) s'
   unfolding run
   one-call k c q a s' G st f =
       record {
-        answers = ap (λ (x : Answer). x ∷ []) G.answer;
+        answers = ap (λ (x : Result ⊤ Refusal). x ∷ []) G.answer;
         after =
             subst (λ (l : List Event). After (k ++ compared l) (called p c q).player s') (sym (append-nil (called p c q).events))
             (record { same = G.same; stands = st; fits = f });
       }
 
   -- one run after the other
-  joined : (k : List Event) (xs ys : List Call) (q : Player) (xa ya : List Answer) (s s' : Progress) → RunIs k (run p xs q) xa s
+  joined : (k : List Event) (xs ys : List Call) (q : Player) (xa ya : List (Result ⊤ Refusal)) (s s' : Progress) → RunIs k (run p xs q) xa s
       → RunIs (k ++ compared (run p xs q).events) (run p ys (run p xs q).player) ya s' → RunIs k (run p (xs ++ ys) q) (xa ++ ya) s'
   joined k xs ys q xa ya s s' A B =
       let events : List Event = (run p ys (run p xs q).player).events in
       record {
-        answers = run-answers p xs ys q ∙ ap₂ (λ (x y : List Answer). x ++ y) A.answers B.answers;
+        answers = run-answers p xs ys q ∙ ap₂ (λ (x y : List (Result ⊤ Refusal)). x ++ y) A.answers B.answers;
         after =
             subst (λ (l : List Event). After (k ++ compared l) (run p (xs ++ ys) q).player s') (sym (run-events p xs ys q))
             (subst (λ (v : Player). After (k ++ compared ((run p xs q).events ++ events)) v s') (sym (run-player p xs ys q))
@@ -212,7 +211,7 @@ module _ (w : Workout) (p : TrainingProfile) (T : Held w) (ok : profile_ok p ≡
 
   new_is : (new_of w).player ≡ fresh w
   unfolding new_of
-  new_is = ap (λ (a : Answer). (new_by w a).player) T.taken.passes
+  new_is = ap (λ (a : Result ⊤ Refusal). (new_by w a).player) T.taken.passes
 
   fresh-power : PowerIs (fresh w).core.readings.power start.readings
   unfolding fresh start backwards window
@@ -266,7 +265,7 @@ module _ (w : Workout) (p : TrainingProfile) (T : Held w) (ok : profile_ok p ≡
                     done = refl;
                     finished = refl;
                     on = record { length = refl; target = refl; intensity = refl };
-                    before = before-start (played_of w 0).played.step.length (each w T 0 (played_of w 0).played.step (first w T)).lasting;
+                    before = before-start (played_in (played_of w 0)).step.length (each w T 0 (played_in (played_of w 0)).step (first w T)).lasting;
                   });
             };
       }
@@ -281,8 +280,8 @@ module _ (w : Workout) (p : TrainingProfile) (T : Held w) (ok : profile_ok p ≡
   -- The summaries are equal after every list.
 
   finished-is : (o : Option Step) (q : Player) (m : Machine) → Now o q.core m → q.core.summary.finished ≡ is_none o
-  finished-is none q m n = n.1
-  finished-is (some s) q m n = n.finished
+  finished-is None q m n = n.1
+  finished-is (Some s) q m n = n.finished
 
   pub summary-is : (k : List Event) (q : Player) (s : Progress) → After k q s → q.core.summary ≡ summary_of w s.machine
   unfolding summary_of is_finished

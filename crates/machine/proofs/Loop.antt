@@ -1,8 +1,8 @@
 -- A round, and the loop of riding, keep the relation: the machine has ridden the same milliseconds.
+use Rattle.std.specs.Prelude.{Option, None, Some}
 use mathlib.Core.Path.{◌≡◌, refl, sym, ap, ap₂, ◌∙◌, subst}
 use mathlib.Core.Logic.{◌⊎◌, inl, inr, ⊎_elim}
 use mathlib.Core.Bool.{Bool, true, false, cond, ◌||◌}
-use mathlib.Core.Option.{Option, none, some}
 use mathlib.Core.List.{List, ◌++◌, append-nil}
 use Prim.Native.Nat.{ℕ, zero, suc, ◌+◌, ◌-◌, ◌*◌, ◌≤◌, ◌<◌}
 use native.Mathlib.Omega.{arith}
@@ -89,7 +89,7 @@ or_right false e h = h
 or-neither : (c e : Bool) → c ≡ false → e ≡ false → (c || e) ≡ false
 or-neither c e h g = rw (h, g) refl
 
-module _ (w : Workout) (each : (i : ℕ) (s : Step) → step_at w i ≡ some s → Plain s) (p : TrainingProfile) (b : Totals) where
+module _ (w : Workout) (each : (i : ℕ) (s : Step) → step_at w i ≡ Some s → Plain s) (p : TrainingProfile) (b : Totals) where
   -- What was ridden keeps the relation, its events joined to those before.
   abbrev Kept : List Event → Rode → Machine → Type 0
   Kept k r m = Alike w b (k ++ compared r.events) (riding_of r) m
@@ -97,7 +97,7 @@ module _ (w : Workout) (each : (i : ℕ) (s : Step) → step_at w i ≡ some s �
   kept_by : (k : List Event) {r r' : Rode} {m m' : Machine} → r ≡ r' → m ≡ m' → Kept k r' m' → Kept k r m
   kept_by k {r} {r'} {m} {m'} e f R = subst (λ (x : Rode). Kept k x m) (sym e) (subst (λ (x : Machine). Kept k r' x) (sym f) R)
 
-  now-at : (k : List Event) (s : Step) (x : Riding) (m : Machine) → Alike w b k x m → step_at w m.step.position ≡ some s → Riding-on s x.core m
+  now-at : (k : List Event) (s : Step) (x : Riding) (m : Machine) → Alike w b k x m → step_at w m.step.position ≡ Some s → Riding-on s x.core m
   now-at k s x m R e = subst (λ (o : Option Step). Now o x.core m) e R.now
 
   -- the player's own part, but that it has some time
@@ -118,7 +118,7 @@ module _ (w : Workout) (each : (i : ℕ) (s : Step) → step_at w i ≡ some s �
   unfolding closed
   closed-by t c e = ap (λ (x : Bool). closed_by x w c) e
 
-  module _ (k : List Event) (s : Step) (g : Plain s) (x : Riding) (m : Machine) (R : Alike w b k x m) (e : step_at w m.step.position ≡ some s) where
+  module _ (k : List Event) (s : Step) (g : Plain s) (x : Riding) (m : Machine) (R : Alike w b k x m) (e : step_at w m.step.position ≡ Some s) where
     abbrev on-now : Riding-on s x.core m
     on-now = now-at k s x m R e
 
@@ -225,14 +225,14 @@ module _ (w : Workout) (each : (i : ℕ) (s : Step) → step_at w i ≡ some s �
   stopped n ms mm k x m R e f = kept_by k e f (subst (λ (l : List Event). Alike w b l x m) (sym (append-nil k)) R)
 
   -- Rounds enough for the steps that are left.
-  module _ (past : (i : ℕ) → played_len w ≤ i → step_at w i ≡ none) where
+  module _ (past : (i : ℕ) → played_len w ≤ i → step_at w i ≡ None) where
     abbrev Enough : ℕ → ℕ → Machine → Type 0
     Enough n ms m = (ms ≡ 0) ⊎ (played_len w < m.step.position + n)
 
     abbrev Loop : ℕ → Type 0
     Loop n = (ms mm : ℕ) (k : List Event) (x : Riding) (m : Machine) → Alike w b k x m → Enough n ms m → Kept k (rounds w p n ms mm x) (milliseconds w p ms m)
 
-    loop-step : (s : Step) (n left mm : ℕ) → Loop n → (k : List Event) (x : Riding) (m : Machine) → Alike w b k x m → step_at w m.step.position ≡ some s
+    loop-step : (s : Step) (n left mm : ℕ) → Loop n → (k : List Event) (x : Riding) (m : Machine) → Alike w b k x m → step_at w m.step.position ≡ Some s
         → Enough (suc n) (suc left) m → Kept k (rounds w p (suc n) (suc left) mm x) (milliseconds w p (suc left) m)
     loop-step s n left mm ih k x m R e h =
         let g : Plain s = each m.step.position s e in
@@ -258,18 +258,18 @@ module _ (w : Workout) (each : (i : ℕ) (s : Step) → step_at w i ≡ some s �
 
     loop-by : (o : Option Step) (n ms mm : ℕ) → ((i : ℕ) → n ≡ suc i → Loop i) → (k : List Event) (x : Riding) (m : Machine) → Alike w b k x m
         → step_at w m.step.position ≡ o → Enough n ms m → Kept k (rounds w p n ms mm x) (milliseconds w p ms m)
-    loop-by none n ms mm ih k x m R e h =
-        let now : Now none x.core m = subst (λ (o : Option Step). Now o x.core m) e R.now in
+    loop-by None n ms mm ih k x m R e h =
+        let now : Now None x.core m = subst (λ (o : Option Step). Now o x.core m) e R.now in
         stopped n ms mm k x m R (rounds-stop n ms mm x (or_left x.core.done (eqb ms 0) now.0)) (milliseconds-done w p ms m e)
-    loop-by (some s) n zero mm ih k x m R e h =
+    loop-by (Some s) n zero mm ih k x m R e h =
         stopped n 0 mm k x m R (rounds-stop n 0 mm x (or_right x.core.done (eqb 0 0) refl)) (unfold milliseconds in refl)
-    loop-by (some s) zero (suc left) mm ih k x m R e h =
+    loop-by (Some s) zero (suc left) mm ih k x m R e h =
         ⊎_elim (λ (q : suc left ≡ 0). absurd (omega arith))
         (λ (q : played_len w < m.step.position + 0). absurd (clash (sym e ∙ past m.step.position (omega arith)))) h
       where
-        clash : some s ≡ none → ⊥
+        clash : Some s ≡ None → ⊥
         clash c = let z : ◌≡◌ {A = ℕ} 0 1 = cc in omega arith
-    loop-by (some s) (suc n) (suc left) mm ih k x m R e h = loop-step s n left mm (ih n refl) k x m R e h
+    loop-by (Some s) (suc n) (suc left) mm ih k x m R e h = loop-step s n left mm (ih n refl) k x m R e h
 
     loop-all : (n : ℕ) → Loop n
     loop-all zero ms mm k x m R h = loop-by (step_at w m.step.position) zero ms mm (λ i q. absurd (omega arith)) k x m R refl h

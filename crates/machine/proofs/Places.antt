@@ -1,7 +1,7 @@
 -- Question 14 while the machine rides on: it never wants more places than before.
+use Rattle.std.specs.Prelude.{Option, None, Some}
 use mathlib.Core.Path.{◌≡◌, refl, ap}
 use mathlib.Core.Bool.{Bool, true, false, cond, ◌&&◌}
-use mathlib.Core.Option.{Option, none, some}
 use Prim.Native.Nat.{ℕ, zero, suc, ◌+◌, ◌-◌, ◌*◌, ◌≤◌}
 use native.Mathlib.Omega.{arith}
 use lib.Dec.{leb}
@@ -25,12 +25,12 @@ module _ (w : Workout) (p : TrainingProfile) where
   abbrev wanted_at : ℕ → ℕ
   wanted_at i = cond (is_none (step_at w i)) 0 (2 * (played_len w - i) + 1)
 
-  wanted-next : (i : ℕ) (s : Step) → step_at w i ≡ some s → wanted_at (i + 1) ≤ wanted_at i
+  wanted-next : (i : ℕ) (s : Step) → step_at w i ≡ Some s → wanted_at (i + 1) ≤ wanted_at i
   wanted-next i s e =
       let here : wanted_at i ≡ 2 * (played_len w - i) + 1 = ap (λ (o : Option Step). cond (is_none o) 0 (2 * (played_len w - i) + 1)) e in
       omega (arith, here, at_most (is_none (step_at w (i + 1))) (2 * (played_len w - (i + 1)) + 1))
 
-  closed-wants : (t : Bool) (s : Step) (m : Machine) → step_at w m.step.position ≡ some s
+  closed-wants : (t : Bool) (s : Step) (m : Machine) → step_at w m.step.position ≡ Some s
       → wanted_at (cond t (ended w s false m) m).step.position ≤ wanted_at m.step.position
   unfolding ended
   closed-wants true s m e = wanted-next m.step.position s e
@@ -38,8 +38,8 @@ module _ (w : Workout) (p : TrainingProfile) where
 
   in-wants : (o : Option Step) (m : Machine) → step_at w m.step.position ≡ o → wanted_at (millisecond_in w p o m).step.position ≤ wanted_at m.step.position
   unfolding millisecond_in closed ridden
-  in-wants none m e = omega arith
-  in-wants (some s) m e = closed-wants (ends_now s.length m.step.extra (m.step.time + 1)) s (ridden w p s m) e
+  in-wants None m e = omega arith
+  in-wants (Some s) m e = closed-wants (ends_now s.length m.step.extra (m.step.time + 1)) s (ridden w p s m) e
 
   wants-later : (n : ℕ) (m : Machine) → wanted_at (milliseconds w p n m).step.position ≤ wanted_at m.step.position
   unfolding milliseconds millisecond

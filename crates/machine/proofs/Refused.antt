@@ -1,12 +1,11 @@
 -- A refused call leaves the player and gives no events.
+use Rattle.std.specs.Prelude.{Err, Ok, Result, ⊤}
 use mathlib.Core.Path.{◌≡◌, refl, sym, ◌∙◌}
 use mathlib.Core.Bool.{Bool, true, false, cond}
 use mathlib.Core.List.{[]}
 use Prim.Native.Nat.{ℕ, ◌+◌}
 use native.Mathlib.Omega.{arith}
 use lib.Dec.{leb, eqb}
-use Rattle.refusal.specs.declared.Answer.{Answer}
-use Rattle.refusal.specs.declared.Answer.TheVariants.{Accepted, Refused}
 use Rattle.refusal.specs.declared.Refusal.{Refusal}
 use Rattle.refusal.specs.declared.Refusal.TheVariants as refusals
 use Rattle.zones.specs.declared.TrainingProfile.{TrainingProfile}
@@ -28,38 +27,38 @@ use Rattle.machine.specs.ThirdDemand.{RefusedStays}
 abbrev Stays : Player → Called → Type 0
 Stays q c = (c.player ≡ q) × (c.events ≡ [])
 
-taken : (r : Refusal) → Accepted ≡ Refused r → ⊥
+taken : (r : Refusal) → ◌≡◌ {A = Result ⊤ Refusal} (Ok tt) (Err r) → ⊥
 taken r e = let z : ◌≡◌ {A = ℕ} 0 1 = cc in omega arith
 
 module _ (q : Player) (r : Refusal) where
-  answered-stays : (a : Answer) (c : Called) → c.answer ≡ Accepted → (answered a q c).answer ≡ Refused r → Stays q (answered a q c)
-  answered-stays Accepted c e h = absurd (taken r (sym e ∙ h))
-  answered-stays (Refused s) c e h = (refl, refl)
+  answered-stays : (a : Result ⊤ Refusal) (c : Called) → c.answer ≡ Ok tt → (answered a q c).answer ≡ Err r → Stays q (answered a q c)
+  answered-stays (Ok tt) c e h = absurd (taken r (sym e ∙ h))
+  answered-stays (Err s) c e h = (refl, refl)
 
-  read_stays : (sample : Sample) (a : Answer) → (read_by a q sample).answer ≡ Refused r → Stays q (of_read (read_by a q sample))
-  read_stays sample Accepted h = absurd (taken r h)
-  read_stays sample (Refused s) h = (refl, refl)
+  read_stays : (sample : Sample) (a : Result ⊤ Refusal) → (read_by a q sample).answer ≡ Err r → Stays q (of_read (read_by a q sample))
+  read_stays sample (Ok tt) h = absurd (taken r h)
+  read_stays sample (Err s) h = (refl, refl)
 
-  ride-taken : (idle : Bool) (o : Rode) → (ride_by idle q o).answer ≡ Accepted
+  ride-taken : (idle : Bool) (o : Rode) → (ride_by idle q o).answer ≡ Ok tt
   ride-taken true o = refl
   ride-taken false o = refl
 
-  now-taken : (ms mm : ℕ) (p : TrainingProfile) → (ride_now q ms mm p).answer ≡ Accepted
+  now-taken : (ms mm : ℕ) (p : TrainingProfile) → (ride_now q ms mm p).answer ≡ Ok tt
   unfolding ride_now
   now-taken ms mm p = ride-taken (eqb ms 0) (rounds q.workout p 97 ms mm (riding (totalled ms mm q.core) q.minute))
 
-  skip-taken : (skip_now q).answer ≡ Accepted
+  skip-taken : (skip_now q).answer ≡ Ok tt
   unfolding skip_now
   skip-taken = at q.core.done
     where
-      at : (t : Bool) → (cond t (eventless Accepted q) (skip_to q (next_of q.workout true q.core))).answer ≡ Accepted
+      at : (t : Bool) → (cond t (eventless (Ok tt) q) (skip_to q (next_of q.workout true q.core))).answer ≡ Ok tt
       at true = refl
       at false = refl
 
   abbrev Extends : Extended → Type 0
-  Extends x = x.answer ≡ Refused r → Stays q (of_extend x)
+  Extends x = x.answer ≡ Err r → Stays q (of_extend x)
 
-  longer-stays : (t : Bool) (secs metres : ℕ) → Extends (extended_by q (cond t (longer_core secs metres q.core) (not_longer (Refused refusals.Extra) q.core)))
+  longer-stays : (t : Bool) (secs metres : ℕ) → Extends (extended_by q (cond t (longer_core secs metres q.core) (not_longer (Err refusals.Extra) q.core)))
   longer-stays true secs metres h = absurd (taken r h)
   longer-stays false secs metres h = (refl, refl)
 
@@ -73,7 +72,7 @@ module _ (q : Player) (r : Refusal) where
   extend-now-stays secs metres true h = (refl, refl)
   extend-now-stays secs metres false h = extend-by-stays secs metres q.core.on.length h
 
-  extend-stays : (secs metres : ℕ) (t : Bool) → Extends (cond t (extend_now secs metres q.core.done q) (not_extended (Refused refusals.Standing) q))
+  extend-stays : (secs metres : ℕ) (t : Bool) → Extends (cond t (extend_now secs metres q.core.done q) (not_extended (Err refusals.Standing) q))
   extend-stays secs metres true h = extend-now-stays secs metres q.core.done h
   extend-stays secs metres false h = (refl, refl)
 

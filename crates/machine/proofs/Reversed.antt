@@ -1,4 +1,5 @@
 -- The greatest mean of neighbouring seconds is the same with the newest second first or last.
+use Rattle.std.specs.Prelude.{None, Option, Some}
 use mathlib.Core.Path.{◌≡◌, refl, sym, ap, ap₂, ◌∙◌}
 use mathlib.Core.Bool.{Bool, true, false}
 use mathlib.Core.List.{List, [], ◌∷◌, ◌++◌, reverse, reverse-append, reverse-cons}
@@ -9,13 +10,11 @@ use lib.ListN.{length, take, drop, length-append, length-drop, length-reverse, t
 use lib.Seq.{take_all, take-append-le, drop_at}
 use borrow.Author.Tests.{leb-true, leb-false}
 use Rattle.common.specs.Lists.{sum}
-use Rattle.power.specs.declared.ReadingOption.{ReadingOption}
-use Rattle.power.specs.declared.ReadingOption.TheVariants.{None, Some}
 use Rattle.machine.specs.Machine.{mean, greater, greatest}
 use Rattle.machine.specs.ThirdDemand.{SecondsEitherWay}
 use Rattle.machine.proofs.Seconds.{sum-reverse, greatest-none, greatest-full}
 
-greater-swap : (o : ReadingOption) (a b : ℕ) → greater (Some (greater o a)) b ≡ greater (Some (greater o b)) a
+greater-swap : (o : Option ℕ) (a b : ℕ) → greater (Some (greater o a)) b ≡ greater (Some (greater o b)) a
 greater-swap None a b = omega arith
 greater-swap (Some best) a b = omega arith
 
@@ -50,13 +49,13 @@ module _ (n w : ℕ) (h : 0 < n) where
           let le : n ≤ length xs + 1 = leb-true n (length xs + 1) t in
           let front : take n (x ∷ (xs ++ (w ∷ []))) ≡ take n (x ∷ xs) = take-append-le n (x ∷ xs) (w ∷ []) (omega arith) in
           greatest-full n x (xs ++ (w ∷ [])) (omega (arith, long xs))
-          ∙ ap₂ (λ (o : ReadingOption) (l : List ℕ). Some (greater o (mean n l))) (ih le) front
+          ∙ ap₂ (λ (o : Option ℕ) (l : List ℕ). Some (greater o (mean n l))) (ih le) front
           ∙ ap Some (greater-swap (greatest n xs) (mean n (last_of xs)) (mean n (take n (x ∷ xs))))
-          ∙ ap₂ (λ (o : ReadingOption) (l : List ℕ). Some (greater o (mean n l))) (sym (greatest-full n x xs (omega arith))) (sym (last_cons x xs le))
+          ∙ ap₂ (λ (o : Option ℕ) (l : List ℕ). Some (greater o (mean n l))) (sym (greatest-full n x xs (omega arith))) (sym (last_cons x xs le))
       at false t ih =
           let lt : length xs + 1 < n = leb-false n (length xs + 1) t in
           greatest-full n x (xs ++ (w ∷ [])) (omega (arith, long xs))
-          ∙ ap₂ (λ (o : ReadingOption) (l : List ℕ). Some (greater o (mean n l)))
+          ∙ ap₂ (λ (o : Option ℕ) (l : List ℕ). Some (greater o (mean n l)))
           (greatest-none n (xs ++ (w ∷ [])) (omega (arith, long xs)) ∙ sym (greatest-none n (x ∷ xs) (omega arith)))
           (take_all n (x ∷ (xs ++ (w ∷ []))) (omega (arith, long xs)) ∙ sym (last-all (x ∷ xs) (omega arith)))
 
@@ -81,7 +80,7 @@ seconds-either-way n (w ∷ ws) h = ap (greatest n) (reverse-cons w ws) ∙ at (
     at true t ih =
         let le : n ≤ suc (length ws) = leb-true n (suc (length ws)) t in
         snoc-full n w h (reverse ws) (omega (arith, length-reverse ws))
-        ∙ ap₂ (λ (o : ReadingOption) (m : ℕ). Some (greater o m)) ih (mean-last n w h ws le)
+        ∙ ap₂ (λ (o : Option ℕ) (m : ℕ). Some (greater o m)) ih (mean-last n w h ws le)
         ∙ sym (greatest-full n w ws le)
     at false t ih =
         let lt : suc (length ws) < n = leb-false n (suc (length ws)) t in

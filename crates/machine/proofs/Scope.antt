@@ -1,8 +1,8 @@
 -- What the third demand's workouts play: steps that are timed or open, without ramps, heart zones from 1 to 5, one at each position
 -- below the played length.
+use Rattle.std.specs.Prelude.{None, Some, is_some, Option}
 use mathlib.Core.Path.{◌≡◌, refl, sym, ap, ◌∙◌, subst}
 use mathlib.Core.Bool.{Bool, true, false, cond, not, ◌&&◌}
-use mathlib.Core.Option.{Option, none, some}
 use mathlib.Core.List.{List}
 use Prim.Native.Nat.{ℕ, ◌≤◌, ◌<◌}
 use native.Mathlib.Omega.{arith}
@@ -20,11 +20,9 @@ use Rattle.model.specs.declared.Step.{Step}
 use Rattle.model.specs.declared.Workout.{Workout}
 use Rattle.model.specs.Workout.{no_step, steps_of}
 use Rattle.order.specs.declared.Played.{Played}
-use Rattle.order.specs.declared.PlaceOption.{PlaceOption}
-use Rattle.order.specs.declared.PlaceOption.TheVariants as place_option
-use Rattle.order.specs.declared.PlayedOption.{PlayedOption}
+use Rattle.order.specs.declared.Place.{Place}
 use Rattle.order.specs.Order as order
-use Rattle.order.specs.Order.{order_of, nth, nothing, played_by, played_of, played_len}
+use Rattle.order.specs.Order.{order_of, nth, nothing, played_by, played_of, played_len, played_in}
 use Rattle.order.proofs.Within.{playing-order}
 use Rattle.form.specs.Form.{is_open}
 use Rattle.validation.specs.Sound.{length_ok, target_ok, step_ok}
@@ -35,20 +33,20 @@ use Rattle.machine.proofs.AtOnce.{apart}
 use Rattle.machine.proofs.Alike.{Lasting, Zoned, Plain}
 
 -- what holds of all of a workout's steps holds of a played one
-by_place : (test : Step → Bool) (steps : List Step) (o : PlaceOption) → all test steps ≡ true → (played_by steps o).found ≡ true
-    → test (played_by steps o).played.step ≡ true
+by_place : (test : Step → Bool) (steps : List Step) (o : Option Place) → all test steps ≡ true → is_some (played_by steps o) ≡ true
+    → test (played_in (played_by steps o)).step ≡ true
 unfolding order.step_at
-by_place test steps place_option.None a t = absurd (apart (sym t))
-by_place test steps (place_option.Some p) a t = at (ltb p.index (length steps)) refl t
+by_place test steps None a t = absurd (apart (sym t))
+by_place test steps (Some p) a t = at (ltb p.index (length steps)) refl t
   where
-    made : PlayedOption
-    made = record { found = true; played = record { index = p.index; repetition = p.repetition; of = p.of; step = get_or steps p.index no_step } }
+    made : Option Played
+    made = Some (record { index = p.index; repetition = p.repetition; of = p.of; step = get_or steps p.index no_step })
 
-    at : (b : Bool) → ltb p.index (length steps) ≡ b → (cond b made nothing).found ≡ true → test (cond b made nothing).played.step ≡ true
+    at : (b : Bool) → ltb p.index (length steps) ≡ b → is_some (cond b made nothing) ≡ true → test (played_in (cond b made nothing)).step ≡ true
     at true e t = all-get test steps p.index no_step (ltb-true _ _ e) a
     at false e t = absurd (apart (sym t))
 
-played-all : (test : Step → Bool) (w : Workout) (i : ℕ) → all test (steps_of w) ≡ true → (played_of w i).found ≡ true → test (played_of w i).played.step ≡ true
+played-all : (test : Step → Bool) (w : Workout) (i : ℕ) → all test (steps_of w) ≡ true → is_some (played_of w i) ≡ true → test (played_in (played_of w i)).step ≡ true
 unfolding played_of
 played-all test w i a t = by_place test (steps_of w) (nth (order_of w) i) a t
 
@@ -88,20 +86,20 @@ module _ (w : Workout) (T : Held w) where
   unfolding played_len
   plays = omega (arith, ltb-true 0 w.step_count valid.some, length-take w.step_count w.steps, T.twelve)
 
-  found-is : (i : ℕ) → (played_of w i).found ≡ ltb i (played_len w)
+  found-is : (i : ℕ) → is_some (played_of w i) ≡ ltb i (played_len w)
   found-is i = playing-order.played_below w valid.blocks i
 
-  pub past : (i : ℕ) → played_len w ≤ i → step_at w i ≡ none
+  pub past : (i : ℕ) → played_len w ≤ i → step_at w i ≡ None
   unfolding step_at
-  past i h = ap (λ (b : Bool). cond b (some (played_of w i).played.step) none) (found-is i ∙ le-ltb i (played_len w) h)
+  past i h = ap (λ (b : Bool). cond b (Some (played_in (played_of w i)).step) None) (found-is i ∙ le-ltb i (played_len w) h)
 
-  pub first : step_at w 0 ≡ some (played_of w 0).played.step
+  pub first : step_at w 0 ≡ Some (played_in (played_of w 0)).step
   unfolding step_at
-  first = ap (λ (b : Bool). cond b (some (played_of w 0).played.step) none) (found-is 0 ∙ lt-ltb 0 (played_len w) plays)
+  first = ap (λ (b : Bool). cond b (Some (played_in (played_of w 0)).step) None) (found-is 0 ∙ lt-ltb 0 (played_len w) plays)
 
-  plain_at : (i : ℕ) → (played_of w i).found ≡ true → Plain (played_of w i).played.step
+  plain_at : (i : ℕ) → is_some (played_of w i) ≡ true → Plain (played_in (played_of w i)).step
   plain_at i found =
-      let s : Step = (played_of w i).played.step in
+      let s : Step = (played_in (played_of w i)).step in
       let both : is_plain s ≡ true = played-all is_plain w i T.taken.plain found in
       let sound : length_ok s.length && target_ok s.target (is_open s.length) ≡ true = unfold step_ok in played-all step_ok w i valid.steps found in
       record {
@@ -112,20 +110,20 @@ module _ (w : Workout) (T : Held w) where
         flat = not-true (is_ramp s.target) (and_right (not (is_distance s.length)) (not (is_ramp s.target)) both);
       }
 
-  pub each : (i : ℕ) (s : Step) → step_at w i ≡ some s → Plain s
+  pub each : (i : ℕ) (s : Step) → step_at w i ≡ Some s → Plain s
   unfolding step_at
-  each i s e = at (played_of w i).found (played_of w i).played (plain_at i) e
+  each i s e = at (played_of w i) (plain_at i) e
     where
-      at : (b : Bool) (played : Played) → (b ≡ true → Plain played.step) → step_of (record { found = b; played = played }) ≡ some s → Plain s
-      at true played h q = subst Plain (same q) (h refl)
+      at : (o : Option Played) → (is_some o ≡ true → Plain (played_in o).step) → step_of o ≡ Some s → Plain s
+      at (Some played) h q = subst Plain (same q) (h refl)
         where
-          same : some played.step ≡ some s → played.step ≡ s
+          same : Some played.step ≡ Some s → played.step ≡ s
           same q = ap (λ (o : Option Step). or_else o) q
             where
               or_else : Option Step → Step
-              or_else none = s
-              or_else (some t) = t
-      at false played h q = absurd (clash q)
+              or_else None = s
+              or_else (Some t) = t
+      at None h q = absurd (clash q)
         where
-          clash : none ≡ some s → ⊥
+          clash : None ≡ Some s → ⊥
           clash q = let z : ◌≡◌ {A = ℕ} 0 1 = cc in omega arith

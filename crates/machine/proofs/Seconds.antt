@@ -1,5 +1,6 @@
 -- The minute ring read backwards from its place is the newest part of the machine's seconds, and its best minute their greatest
 -- mean. All of it is for a minute of any number of seconds but none.
+use Rattle.std.specs.Prelude.{None, Option, Some}
 use mathlib.Core.Path.{◌≡◌, refl, sym, ap, ◌∙◌, subst}
 use mathlib.Core.Bool.{Bool, true, false}
 use mathlib.Core.List.{List, [], ◌∷◌, ◌++◌, reverse, reverse-append, reverse-cons, append_assoc, append-nil}
@@ -12,8 +13,6 @@ use lib.ListN.{length, take, drop, set, get_or, replicate, length-append, length
 use lib.Seq.{take-nil, take-suc-set, drop-set-lt, drop-cons, take_at, take_all, take-take}
 use borrow.Author.Tests.{eqb-true, eqb-false, leb-true, leb-false, le-leb, lt-leb}
 use Rattle.common.specs.Lists.{sum}
-use Rattle.power.specs.declared.ReadingOption.{ReadingOption}
-use Rattle.power.specs.declared.ReadingOption.TheVariants.{None, Some}
 use Rattle.measure.specs.Measure.{Minute, above, best_after, mean_of, pushed, pushes}
 use Rattle.machine.specs.Machine.{mean, greater, greatest}
 
@@ -110,7 +109,7 @@ pub greatest-full : (n w : ℕ) (ws : List ℕ) → n ≤ suc (length ws)
 unfolding greatest
 greatest-full n w ws h = rw (le-leb n (suc (length ws)) h) refl
 
-above-is : (o : ReadingOption) (watts : ℕ) → above o watts ≡ greater o watts
+above-is : (o : Option ℕ) (watts : ℕ) → above o watts ≡ greater o watts
 above-is None watts = refl
 above-is (Some best) watts = refl
 
@@ -178,7 +177,7 @@ pushes-are k zero w m seconds R = R
 pushes-are k (suc n) w m seconds R =
     rw (← (replicate_more n w seconds)) (pushes-are k n w (pushed (suc k) w m) (w ∷ seconds) (push-is k w m seconds R))
 
-greater-again : (o : ReadingOption) (watts : ℕ) → greater (Some (greater o watts)) watts ≡ greater o watts
+greater-again : (o : Option ℕ) (watts : ℕ) → greater (Some (greater o watts)) watts ≡ greater o watts
 greater-again None watts = omega arith
 greater-again (Some best) watts = omega arith
 

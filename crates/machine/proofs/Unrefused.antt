@@ -1,18 +1,17 @@
 -- Where nothing of the uncut list is refused, nothing of the cut one is: a fact about the machine's own questions alone. Both lists
 -- bring the machine to the same state, and the cut list's sums for question 13 are never more than the uncut list's.
+use Rattle.std.specs.Prelude.{Ok, Result, ⊤, Option}
 use mathlib.Core.Path.{◌≡◌, refl, sym, ap, ◌∙◌, subst}
 use mathlib.Core.Bool.{Bool, true, false, cond}
-use mathlib.Core.Option.{Option}
 use mathlib.Core.List.{List, [], ◌∷◌, ◌++◌}
 use Prim.Native.Nat.{ℕ, ◌+◌, ◌≤◌}
 use native.Mathlib.Omega.{arith}
 use lib.Dec.{leb, eqb}
 use borrow.Author.Tests.{leb-true, le-leb, eqb-true, eq-eqb}
 use Rattle.common.proofs.Tests.{and_left, and_right, and_both}
-use Rattle.refusal.specs.declared.Answer.{Answer}
-use Rattle.refusal.specs.declared.Answer.TheVariants.{Accepted}
 use Rattle.refusal.specs.declared.Refusal.TheVariants as refusals
 use Rattle.refusal.specs.Number.{ask}
+use Rattle.refusal.specs.declared.Refusal.{Refusal}
 use Rattle.validation.proofs.Passes.{ask-left, ask-right}
 use Rattle.zones.specs.declared.TrainingProfile.{TrainingProfile}
 use Rattle.model.specs.declared.Workout.{Workout}
@@ -40,15 +39,15 @@ alone-is (c ∷ cs) = own-calls c (cut (alone cs)) ∙ ap (λ (rest : List Call)
 
 -- Lists of answers.
 
-pub accepted-left : (xs ys : List Answer) → AllAccepted (xs ++ ys) → AllAccepted xs
+pub accepted-left : (xs ys : List (Result ⊤ Refusal)) → AllAccepted (xs ++ ys) → AllAccepted xs
 accepted-left [] ys h = tt
 accepted-left (x ∷ xs) ys h = (h.0, accepted-left xs ys h.1)
 
-pub accepted-right : (xs ys : List Answer) → AllAccepted (xs ++ ys) → AllAccepted ys
+pub accepted-right : (xs ys : List (Result ⊤ Refusal)) → AllAccepted (xs ++ ys) → AllAccepted ys
 accepted-right [] ys h = h
 accepted-right (x ∷ xs) ys h = accepted-right xs ys h.1
 
-accepted-append : (xs ys : List Answer) → AllAccepted xs → AllAccepted ys → AllAccepted (xs ++ ys)
+accepted-append : (xs ys : List (Result ⊤ Refusal)) → AllAccepted xs → AllAccepted ys → AllAccepted (xs ++ ys)
 accepted-append [] ys h g = g
 accepted-append (x ∷ xs) ys h g = (h.0, accepted-append xs ys h.1 g)
 
@@ -85,37 +84,37 @@ unfolding with_piece
 with-most e b = with-by (eqb e.ms 0) e b
 
 module _ (w : Workout) (p : TrainingProfile) where
-  passed : (kinds values : ℕ) (s : Progress) (e : Piece) → piece_asks w kinds values s e ≡ Accepted → Passes w kinds values s e
+  passed : (kinds values : ℕ) (s : Progress) (e : Piece) → piece_asks w kinds values s e ≡ Ok tt → Passes w kinds values s e
   unfolding piece_asks
   passed kinds values s e a =
-      let places : Answer = ask (places_ok w s.machine kinds values) refusals.EventPlaces Accepted in
-      let rest : Answer = ask (totals_ok s.totals e) refusals.Totals places in
+      let places : Result ⊤ Refusal = ask (places_ok w s.machine kinds values) refusals.EventPlaces (Ok tt) in
+      let rest : Result ⊤ Refusal = ask (totals_ok s.totals e) refusals.Totals places in
       let x : piece_ok e ≡ true = ask-left (piece_ok e) refusals.Update rest a in
-      let y : rest ≡ Accepted = ask-right (piece_ok e) refusals.Update rest a in
+      let y : rest ≡ Ok tt = ask-right (piece_ok e) refusals.Update rest a in
       let z : totals_ok s.totals e ≡ true = ask-left (totals_ok s.totals e) refusals.Totals places y in
-      let v : places ≡ Accepted = ask-right (totals_ok s.totals e) refusals.Totals places y in
+      let v : places ≡ Ok tt = ask-right (totals_ok s.totals e) refusals.Totals places y in
       record {
         ms = leb-true e.ms 86400000 (and_left (leb e.ms 86400000) (leb e.mm 1000000000) x);
         mm = leb-true e.mm 1000000000 (and_right (leb e.ms 86400000) (leb e.mm 1000000000) x);
         sum-ms = leb-true (s.totals.ms + e.ms) 604800000 (and_left (leb (s.totals.ms + e.ms) 604800000) (leb (s.totals.mm + e.mm) 7000000000) z);
         sum-mm = leb-true (s.totals.mm + e.mm) 7000000000 (and_right (leb (s.totals.ms + e.ms) 604800000) (leb (s.totals.mm + e.mm) 7000000000) z);
-        places = ask-left (places_ok w s.machine kinds values) refusals.EventPlaces Accepted v;
+        places = ask-left (places_ok w s.machine kinds values) refusals.EventPlaces (Ok tt) v;
       }
 
-  passes : (kinds values : ℕ) (s : Progress) (e : Piece) → Passes w kinds values s e → piece_asks w kinds values s e ≡ Accepted
+  passes : (kinds values : ℕ) (s : Progress) (e : Piece) → Passes w kinds values s e → piece_asks w kinds values s e ≡ Ok tt
   unfolding piece_asks
   passes kinds values s e P =
-      let places : Answer = ask (places_ok w s.machine kinds values) refusals.EventPlaces Accepted in
+      let places : Result ⊤ Refusal = ask (places_ok w s.machine kinds values) refusals.EventPlaces (Ok tt) in
       ap (λ (b : Bool). ask b refusals.Update (ask (totals_ok s.totals e) refusals.Totals places))
       (and_both (le-leb e.ms 86400000 P.ms) (le-leb e.mm 1000000000 P.mm))
       ∙ ap (λ (b : Bool). ask b refusals.Totals places)
       (and_both (le-leb (s.totals.ms + e.ms) 604800000 P.sum-ms) (le-leb (s.totals.mm + e.mm) 7000000000 P.sum-mm))
-      ∙ ap (λ (b : Bool). ask b refusals.EventPlaces Accepted) P.places
+      ∙ ap (λ (b : Bool). ask b refusals.EventPlaces (Ok tt)) P.places
 
-  taken-piece : (kinds values : ℕ) (s : Progress) (e : Piece) → piece_asks w kinds values s e ≡ Accepted
+  taken-piece : (kinds values : ℕ) (s : Progress) (e : Piece) → piece_asks w kinds values s e ≡ Ok tt
       → after_piece w p (piece_asks w kinds values s e) e s ≡ record { machine = milliseconds w p e.ms s.machine; totals = with_piece e s.totals }
   unfolding after_piece
-  taken-piece kinds values s e a = ap (λ (x : Answer). after_piece w p x e s) a
+  taken-piece kinds values s e a = ap (λ (x : Result ⊤ Refusal). after_piece w p x e s) a
 
   -- None of a ride's pieces is refused.
   pub record AllTaken (kinds values : ℕ) (es : List Piece) (s : Progress) : Type 0 where
@@ -129,7 +128,7 @@ module _ (w : Workout) (p : TrainingProfile) where
   pieces-taken kinds values [] s places h1 h2 h3 h4 =
       record { answers = tt; machine = unfold milliseconds in refl; totals = record { ms = omega arith; mm = omega arith; none = λ z. refl } }
   pieces-taken kinds values (e ∷ es) s places h1 h2 h3 h4 =
-      let a : piece_asks w kinds values s e ≡ Accepted =
+      let a : piece_asks w kinds values s e ≡ Ok tt =
       passes kinds values s e (record { ms = omega arith; mm = omega arith; sum-ms = omega arith; sum-mm = omega arith; places = places }) in
       let s' : Progress = after_piece w p (piece_asks w kinds values s e) e s in
       let q : s' ≡ record { machine = milliseconds w p e.ms s.machine; totals = with_piece e s.totals } = taken-piece kinds values s e a in
@@ -159,9 +158,9 @@ module _ (w : Workout) (p : TrainingProfile) where
   unfolding with_piece
   grown-is e es b d c f g h S = grown-by (eqb e.ms 0) e es b d c refl f g h S
 
-  unless-taken : (a : Answer) (s : Progress) (m : Machine) → a ≡ Accepted → unless_refused a s m ≡ record { machine = m; totals = s.totals }
+  unless-taken : (a : Result ⊤ Refusal) (s : Progress) (m : Machine) → a ≡ Ok tt → unless_refused a s m ≡ record { machine = m; totals = s.totals }
   unfolding unless_refused
-  unless-taken a s m e = ap (λ (x : Answer). unless_refused x s m) e
+  unless-taken a s m e = ap (λ (x : Result ⊤ Refusal). unless_refused x s m) e
 
   -- A call of the cut list beside that of the uncut one: not refused either, and the same state after it.
   pub record Beside (c : Call) (es : List Piece) (f g : Progress) : Type 0 where
@@ -191,7 +190,7 @@ module _ (w : Workout) (p : TrainingProfile) where
       → AllAccepted (call_asks w p (skip kinds values) (own (skip kinds values)) f) → Beside (skip kinds values) es f g
   unfolding call_asks after_call
   skip-beside kinds values es f g e t a =
-      let b : skip_asks w kinds values g ≡ Accepted = ap (λ (m : Machine). ask (places_ok w m kinds values) refusals.EventPlaces Accepted) e ∙ a.0 in
+      let b : skip_asks w kinds values g ≡ Ok tt = ap (λ (m : Machine). ask (places_ok w m kinds values) refusals.EventPlaces (Ok tt)) e ∙ a.0 in
       let after : Machine → Machine = λ m. skipped w (step_at w m.step.position) m in
       beside-by (skip kinds values) es f g (record { machine = after f.machine; totals = f.totals }) (record { machine = after g.machine; totals = g.totals })
       (b, tt) (unless-taken (skip_asks w kinds values g) g (after g.machine) b) (unless-taken (skip_asks w kinds values f) f (after f.machine) a.0)
@@ -202,7 +201,7 @@ module _ (w : Workout) (p : TrainingProfile) where
   unfolding call_asks after_call
   extend-beside secs metres es f g e t a =
       let next : Machine → Option ℕ = λ m. extra_after (step_at w m.step.position) secs m.step.extra in
-      let b : extend_asks w secs g ≡ Accepted = ap (λ (m : Machine). extra_asks (next m)) e ∙ a.0 in
+      let b : extend_asks w secs g ≡ Ok tt = ap (λ (m : Machine). extra_asks (next m)) e ∙ a.0 in
       let after : Machine → Machine = λ m. with_extra (next m) m in
       beside-by (extend secs metres) es f g (record { machine = after f.machine; totals = f.totals }) (record { machine = after g.machine; totals = g.totals })
       (b, tt) (unless-taken (extend_asks w secs g) g (after g.machine) b) (unless-taken (extend_asks w secs f) f (after f.machine) a.0)

@@ -1,13 +1,11 @@
 -- Document 02, g: "Targeted plus unread is then all time ridden under a band.": of the millisecond machine, and so of the player.
-use Rattle.std.specs.Prelude.{◌≡◌, Bool, true, false, cond, List, [], ◌∷◌, ℕ, zero, suc, ◌+◌, ◌/◌}
-use Rattle.std.proofs.Math.Option.{Option, none, some}
+use Rattle.std.specs.Prelude.{◌≡◌, Bool, true, false, cond, List, [], ◌∷◌, ℕ, zero, suc, ◌+◌, ◌/◌, None, Some, Option}
 use Rattle.zones.specs.declared.TrainingProfile.{TrainingProfile}
 use Rattle.zones.specs.Zones.{profile_ok}
-use Rattle.model.specs.declared.BandOption.{BandOption}
-use Rattle.model.specs.declared.BandOption.TheVariants as bands
 use Rattle.model.specs.declared.Step.{Step}
 use Rattle.model.specs.declared.Test.{Test}
 use Rattle.model.specs.declared.Workout.{Workout}
+use Rattle.model.specs.declared.Band.{Band}
 use Rattle.model.specs.Target.{band_of}
 use Rattle.state.specs.declared.Summary.{Summary}
 use Rattle.rounds.specs.Rounds.{Riding, advanced}
@@ -17,14 +15,14 @@ use Rattle.machine.specs.Runs.{Progress, begun, after_call, lasts}
 use Rattle.machine.specs.ThirdDemand.{Taken, InMemory, cut_run}
 
 -- "a band stood"
-abbrev pub has_band : BandOption → Bool
-has_band bands.None = false
-has_band (bands.Some band) = true
+abbrev pub has_band : Option Band → Bool
+has_band None = false
+has_band (Some band) = true
 
 -- A millisecond counts for 1 in a step with a band, and for 0 in one without and after the finish.
 unfoldable pub banded : TrainingProfile → Option Step → ℕ → ℕ
-banded p none time = 0
-banded p (some s) time = cond (has_band (band_of s.target p (time / 1000))) 1 0
+banded p None time = 0
+banded p (Some s) time = cond (has_band (band_of s.target p (time / 1000))) 1 0
 
 -- Of the machine's next n milliseconds those under a band.
 unfoldable pub banded_ms : Workout → TrainingProfile → ℕ → Machine → ℕ

@@ -3,8 +3,7 @@
 -- `played_len`), the band of a target (`band_of`) and the zone of a heart rate (`heart_zone`); crate bench_sheet has closed facts of these
 -- three. All else is its own, written from the paper's sentences: average, whole turns, in, under and over, event kinds, results.
 -- The machine's words are the paper's: a step that ends by a skip is marked, and the rest is what is left over from whole seconds.
-use Rattle.std.specs.Prelude.{Bool, true, false, cond, ◌&&◌, List, [], ◌∷◌, ◌++◌, ℕ, zero, suc, ◌+◌, ◌*◌, ◌/◌, max, ltb, leb, eqb, length, take}
-use Rattle.std.proofs.Math.Option.{Option, none, some}
+use Rattle.std.specs.Prelude.{Bool, true, false, cond, ◌&&◌, List, [], ◌∷◌, ◌++◌, ℕ, zero, suc, ◌+◌, ◌*◌, ◌/◌, max, ltb, leb, eqb, length, take, None, Some, is_some, Option}
 use Rattle.common.specs.Lists.{sum}
 use Rattle.zones.specs.declared.TrainingProfile.{TrainingProfile}
 use Rattle.zones.specs.Zones.{heart_zone}
@@ -16,8 +15,6 @@ use Rattle.model.specs.declared.Length.TheVariants.{Time, Distance, Open}
 use Rattle.model.specs.declared.Metric.{Metric}
 use Rattle.model.specs.declared.Metric.TheVariants as metrics
 use Rattle.model.specs.declared.Band.{Band}
-use Rattle.model.specs.declared.BandOption.{BandOption}
-use Rattle.model.specs.declared.BandOption.TheVariants as bands
 use Rattle.model.specs.declared.Target.{Target}
 use Rattle.model.specs.declared.Target.TheVariants.{Free, Ftp, Watts, HeartZone, Lthr, Cadence, FtpRamp}
 use Rattle.model.specs.declared.Target.TheVariants as targets
@@ -27,10 +24,8 @@ use Rattle.model.specs.declared.Test.TheVariants as tests
 use Rattle.model.specs.declared.Step.{Step}
 use Rattle.model.specs.declared.Workout.{Workout}
 use Rattle.model.specs.Target.{band_of}
-use Rattle.order.specs.declared.PlayedOption.{PlayedOption}
-use Rattle.order.specs.Order.{played_of, played_len}
-use Rattle.power.specs.declared.ReadingOption.{ReadingOption}
-use Rattle.power.specs.declared.ReadingOption.TheVariants.{None, Some}
+use Rattle.order.specs.declared.Played.{Played}
+use Rattle.order.specs.Order.{played_of, played_len, played_in}
 use Rattle.readings.specs.declared.Sample.{Sample}
 use Rattle.events.specs.Events.{Event}
 use Rattle.state.specs.declared.Summary.{Summary}
@@ -62,7 +57,7 @@ pub record Sums : Type 0 where
 -- What the ends of steps have given: how many were skipped, "FTP", and the events so far.
 pub record Given : Type 0 where
   pub skipped : ℕ
-  pub ftp : ReadingOption
+  pub ftp : Option ℕ
   pub events : List Event
 
 -- "State: position, time and extra in the step, last three readings, tallies, test sums, a list of seconds' watts with a rest, FTP."
@@ -92,15 +87,15 @@ start =
     }
 
 -- The step at a position. Where there is none all steps are done, and the machine has finished.
-abbrev pub step_of : PlayedOption → Option Step
-step_of played = cond played.found (some played.played.step) none
+abbrev pub step_of : Option Played → Option Step
+step_of played = cond (is_some played) (Some (played_in played).step) None
 
 unfoldable pub step_at : Workout → ℕ → Option Step
 step_at w position = step_of (played_of w position)
 
 abbrev pub is_none : Option Step → Bool
-is_none none = true
-is_none (some s) = false
+is_none None = true
+is_none (Some s) = false
 
 unfoldable pub is_finished : Workout → Machine → Bool
 is_finished w m = is_none (step_at w m.step.position)
@@ -124,20 +119,20 @@ newest (sample ∷ samples) = sample
 
 -- "Extend: .. more in an unfinished timed step", the seconds of the call: the extra after it, if it is one.
 abbrev pub extra_in : Length → ℕ → ℕ → Option ℕ
-extra_in (Time time) secs extra = some (extra + secs)
-extra_in (Distance metres) secs extra = none
-extra_in Open secs extra = none
+extra_in (Time time) secs extra = Some (extra + secs)
+extra_in (Distance metres) secs extra = None
+extra_in Open secs extra = None
 
 abbrev pub extra_after : Option Step → ℕ → ℕ → Option ℕ
-extra_after none secs extra = none
-extra_after (some s) secs extra = extra_in s.length secs extra
+extra_after None secs extra = None
+extra_after (Some s) secs extra = extra_in s.length secs extra
 
 abbrev pub lengthened : ℕ → StepTime → StepTime
 lengthened extra t = record { position = t.position; time = t.time; extra = extra }
 
 unfoldable pub with_extra : Option ℕ → Machine → Machine
-with_extra none m = m
-with_extra (some extra) m =
+with_extra None m = m
+with_extra (Some extra) m =
     record { step = lengthened extra m.step; readings = m.readings; tallies = m.tallies; sums = m.sums; given = m.given }
 
 -- The test's result.
@@ -159,7 +154,7 @@ abbrev pub end_of : ℕ → ℕ → ℕ
 end_of secs extra = 1000 * (secs + extra)
 
 -- "Only 50 to 600 is kept."
-abbrev pub kept : ℕ → ReadingOption
+abbrev pub kept : ℕ → Option ℕ
 kept watts = cond (leb 50 watts && leb watts 600) (Some watts) None
 
 -- "mean (sum + time / 2) / time, then (mean × 95 + 50) / 100"
@@ -167,7 +162,7 @@ abbrev pub twenty_watts : Sums → ℕ
 twenty_watts u = ((u.sum + u.time / 2) / u.time * 95 + 50) / 100
 
 -- "`Twenty`: unless marked or test time is below that step's 1,000 × (seconds + extra)". A step without seconds gives none.
-unfoldable pub twenty : Length → ℕ → Sums → ReadingOption
+unfoldable pub twenty : Length → ℕ → Sums → Option ℕ
 twenty (Time secs) extra u = cond (ltb u.time (end_of secs extra)) None (kept (twenty_watts u))
 twenty (Distance metres) extra u = None
 twenty Open extra u = None
@@ -176,37 +171,37 @@ twenty Open extra u = None
 unfoldable pub mean : ℕ → List ℕ → ℕ
 mean n watts = (sum watts + n / 2) / n
 
-abbrev pub greater : ReadingOption → ℕ → ℕ
+abbrev pub greater : Option ℕ → ℕ → ℕ
 greater None watts = watts
 greater (Some best) watts = max best watts
 
 -- "the greatest": of the newest n seconds and of those before the newest one, while there are n.
-unfoldable pub greatest : ℕ → List ℕ → ReadingOption
+unfoldable pub greatest : ℕ → List ℕ → Option ℕ
 greatest n [] = None
 greatest n (w ∷ ws) = cond (leb n (suc (length ws))) (Some (greater (greatest n ws) (mean n (take n (w ∷ ws))))) None
 
 -- "× 75, + 50, / 100"
-abbrev pub ramp_of : ReadingOption → ReadingOption
+abbrev pub ramp_of : Option ℕ → Option ℕ
 ramp_of None = None
 ramp_of (Some best) = kept ((best * 75 + 50) / 100)
 
 -- "`Ramp`: the greatest (sum + 30) / 60 of 60 neighbouring seconds, × 75, + 50, / 100."
-unfoldable pub ramp : Sums → ReadingOption
+unfoldable pub ramp : Sums → Option ℕ
 ramp u = ramp_of (greatest 60 u.seconds)
 
-unfoldable pub result : Test → Length → ℕ → Bool → Sums → ReadingOption
+unfoldable pub result : Test → Length → ℕ → Bool → Sums → Option ℕ
 result tests.None l extra marked u = None
 result Twenty l extra marked u = cond marked None (twenty l extra u)
 result tests.Ramp l extra marked u = ramp u
 
 -- "in a `Test` step the result, if any"
-abbrev pub result_in : Workout → Step → Bool → Machine → ReadingOption
+abbrev pub result_in : Workout → Step → Bool → Machine → Option ℕ
 result_in w s marked m = result (test_in w s) s.length m.step.extra marked m.sums
 
 -- Ending.
 
 -- "is kept"
-abbrev pub ftp_after : ReadingOption → ReadingOption → ReadingOption
+abbrev pub ftp_after : Option ℕ → Option ℕ → Option ℕ
 ftp_after None before = before
 ftp_after (Some watts) before = Some watts
 
@@ -221,26 +216,26 @@ abbrev pub ftp : ℕ → Event
 ftp watts = record { kind = 3; value = watts }
 
 -- "with an FTP event"
-abbrev pub ftp_events : ReadingOption → List Event
+abbrev pub ftp_events : Option ℕ → List Event
 ftp_events None = []
 ftp_events (Some watts) = ftp watts ∷ []
 
 -- "started with the new position, or finished"
 abbrev pub next_event : Option Step → ℕ → Event
-next_event none position = finished
-next_event (some s) position = started position
+next_event None position = finished
+next_event (Some s) position = started position
 
 -- "Test sums, seconds' list, rest and best minute now begin empty whenever a step starts." (document 02, d; they "run on across steps"
 -- in document 01.) At the finish no step starts. The best minute is made of the list.
 abbrev pub sums_at : Option Step → Sums → Sums
-sums_at none u = u
-sums_at (some s) u = no_sums
+sums_at None u = u
+sums_at (Some s) u = no_sums
 
 -- The step after the one at a position.
 abbrev pub step_after : Workout → ℕ → Option Step
 step_after w position = step_at w (position + 1)
 
-abbrev pub given_at : Option Step → ℕ → Bool → ReadingOption → Given → Given
+abbrev pub given_at : Option Step → ℕ → Bool → Option ℕ → Given → Given
 given_at next position marked result g =
     record {
       skipped = g.skipped + cond marked 1 0;
@@ -262,14 +257,14 @@ ended w s marked m =
 
 -- "Skip: unless finished, end the step, marked."
 unfoldable pub skipped : Workout → Option Step → Machine → Machine
-skipped w none m = m
-skipped w (some s) m = ended w s true m
+skipped w None m = m
+skipped w (Some s) m = ended w s true m
 
 -- A millisecond.
 
 -- "its reading present (for power the three-reading average, else the newest reading's)"
 
-abbrev pub if_present : ReadingOption → List ℕ
+abbrev pub if_present : Option ℕ → List ℕ
 if_present None = []
 if_present (Some power) = power ∷ []
 
@@ -279,16 +274,16 @@ present [] = []
 present (sample ∷ samples) = if_present sample.power_watts ++ present samples
 
 -- "the three-reading average": the mean of those present among the last three, if there is one. "Readings 100, 101: 101."
-abbrev pub average_watts : List ℕ → ReadingOption
+abbrev pub average_watts : List ℕ → Option ℕ
 average_watts [] = None
 average_watts (w ∷ ws) = Some (mean (length (w ∷ ws)) (w ∷ ws))
 
 -- Tenths of a turn in whole turns, half a turn up.
-abbrev pub turns : ReadingOption → ReadingOption
+abbrev pub turns : Option ℕ → Option ℕ
 turns None = None
 turns (Some tenths) = Some ((tenths + 5) / 10)
 
-unfoldable pub reading_for : Metric → List Sample → ReadingOption
+unfoldable pub reading_for : Metric → List Sample → Option ℕ
 reading_for metrics.Power samples = average_watts (present samples)
 reading_for metrics.Heart samples = (newest samples).heart_bpm
 reading_for metrics.Cadence samples = turns (newest samples).cadence_tenths
@@ -317,13 +312,13 @@ judge (targets.Ramp start step every) b p value = between b.low b.high value
 judge (FtpRamp start step every) b p value = between b.low b.high value
 
 -- "with a band and its reading present"
-abbrev pub judge_if : Target → Band → TrainingProfile → ReadingOption → Judged
+abbrev pub judge_if : Target → Band → TrainingProfile → Option ℕ → Judged
 judge_if target b p None = is_unread
 judge_if target b p (Some value) = judge target b p value
 
-abbrev pub judged_by : Target → BandOption → TrainingProfile → List Sample → Judged
-judged_by target bands.None p samples = is_nothing
-judged_by target (bands.Some b) p samples = judge_if target b p (reading_for b.metric samples)
+abbrev pub judged_by : Target → Option Band → TrainingProfile → List Sample → Judged
+judged_by target None p samples = is_nothing
+judged_by target (Some b) p samples = judge_if target b p (reading_for b.metric samples)
 
 abbrev pub judged_in : TrainingProfile → Step → Machine → Judged
 judged_in p s m = judged_by s.target (band_of s.target p (m.step.time / 1000)) p m.readings
@@ -337,7 +332,7 @@ tally is_unread t = record { targeted = t.targeted; inside = t.inside; under = t
 tally is_nothing t = t
 
 -- "the last power (absent 0)"
-abbrev pub zero_if_absent : ReadingOption → ℕ
+abbrev pub zero_if_absent : Option ℕ → ℕ
 zero_if_absent None = 0
 zero_if_absent (Some power) = power
 
@@ -378,8 +373,8 @@ closed w s m = cond (ends_now s.length m.step.extra m.step.time) (ended w s fals
 
 -- "Each millisecond, unless finished"
 unfoldable pub millisecond_in : Workout → TrainingProfile → Option Step → Machine → Machine
-millisecond_in w p none m = m
-millisecond_in w p (some s) m = closed w s (ridden w p s m)
+millisecond_in w p None m = m
+millisecond_in w p (Some s) m = closed w s (ridden w p s m)
 
 unfoldable pub millisecond : Workout → TrainingProfile → Machine → Machine
 millisecond w p m = millisecond_in w p (step_at w m.step.position) m

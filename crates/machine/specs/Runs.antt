@@ -1,16 +1,12 @@
 -- Document 01, 'The millisecond machine': a list of calls run by the player, and the same list, with the pieces of its rides, run by
 -- the machine.
-use Rattle.std.specs.Prelude.{Bool, true, cond, ◌&&◌, List, [], ◌∷◌, ◌++◌, ℕ, ◌+◌, ◌-◌, ◌*◌, leb, eqb}
-use Rattle.std.proofs.Math.Option.{Option, none, some}
-use Rattle.refusal.specs.declared.Answer.{Answer}
-use Rattle.refusal.specs.declared.Answer.TheVariants.{Accepted, Refused}
+use Rattle.std.specs.Prelude.{Bool, true, cond, ◌&&◌, List, [], ◌∷◌, ◌++◌, ℕ, ◌+◌, ◌-◌, ◌*◌, leb, eqb, Err, None, Ok, Result, Some, ⊤, Option}
 use Rattle.refusal.specs.declared.Refusal.TheVariants as refusals
 use Rattle.refusal.specs.Number.{ask}
+use Rattle.refusal.specs.declared.Refusal.{Refusal}
 use Rattle.zones.specs.declared.TrainingProfile.{TrainingProfile}
 use Rattle.model.specs.declared.Workout.{Workout}
 use Rattle.order.specs.Order.{played_len}
-use Rattle.power.specs.declared.ReadingOption.{ReadingOption}
-use Rattle.power.specs.declared.ReadingOption.TheVariants.{None, Some}
 use Rattle.readings.specs.declared.Sample.{Sample}
 use Rattle.events.specs.Events.{Event}
 use Rattle.state.specs.declared.Player.{Player}
@@ -42,7 +38,7 @@ called p (extend secs metres) player = of_extend (extend_with secs metres player
 pub record Run : Type 0 where
   pub player : Player
   pub events : List Event
-  pub answers : List Answer
+  pub answers : List (Result ⊤ Refusal)
 
 -- "Each call gets the player that the last one returned."
 unfoldable pub run : TrainingProfile → List Call → Player → Run
@@ -72,12 +68,12 @@ begun = record { machine = start; totals = record { ms = 0; mm = 0 } }
 -- nothing is asked: the machine has no player handed in.
 
 -- "Reading: cadence at most 65,530 tenths? 11."
-abbrev pub cadence_ok : ReadingOption → Bool
+abbrev pub cadence_ok : Option ℕ → Bool
 cadence_ok None = true
 cadence_ok (Some tenths) = leb tenths 65530
 
-abbrev pub read_asks : Sample → Answer
-read_asks sample = ask (cadence_ok sample.cadence_tenths) refusals.Cadence Accepted
+abbrev pub read_asks : Sample → Result ⊤ Refusal
+read_asks sample = ask (cadence_ok sample.cadence_tenths) refusals.Cadence (Ok tt)
 
 -- "ms at most 86,400,000 and mm at most 1,000,000,000? 12"
 abbrev pub piece_ok : Piece → Bool
@@ -95,30 +91,30 @@ places_wanted w m = cond (is_finished w m) 0 (2 * (played_len w - m.step.positio
 abbrev pub places_ok : Workout → Machine → ℕ → ℕ → Bool
 places_ok w m kinds values = leb (places_wanted w m) kinds && leb (places_wanted w m) values
 
-unfoldable pub piece_asks : Workout → ℕ → ℕ → Progress → Piece → Answer
+unfoldable pub piece_asks : Workout → ℕ → ℕ → Progress → Piece → Result ⊤ Refusal
 piece_asks w kinds values s q =
     ask (piece_ok q) refusals.Update
-    (ask (totals_ok s.totals q) refusals.Totals (ask (places_ok w s.machine kinds values) refusals.EventPlaces Accepted))
+    (ask (totals_ok s.totals q) refusals.Totals (ask (places_ok w s.machine kinds values) refusals.EventPlaces (Ok tt)))
 
-abbrev pub skip_asks : Workout → ℕ → ℕ → Progress → Answer
-skip_asks w kinds values s = ask (places_ok w s.machine kinds values) refusals.EventPlaces Accepted
+abbrev pub skip_asks : Workout → ℕ → ℕ → Progress → Result ⊤ Refusal
+skip_asks w kinds values s = ask (places_ok w s.machine kinds values) refusals.EventPlaces (Ok tt)
 
 -- "its extra at most 86,400 s .. after it? 15. Open or finished gives `false`, no refusal."
-abbrev pub extra_asks : Option ℕ → Answer
-extra_asks none = Accepted
-extra_asks (some extra) = ask (leb extra 86400) refusals.Extra Accepted
+abbrev pub extra_asks : Option ℕ → Result ⊤ Refusal
+extra_asks None = Ok tt
+extra_asks (Some extra) = ask (leb extra 86400) refusals.Extra (Ok tt)
 
 -- "The millisecond machine's extend adds the seconds of the call." (document 02, i; it was "60 s more")
 abbrev pub extra_next : Workout → ℕ → Progress → Option ℕ
 extra_next w secs s = extra_after (step_at w s.machine.step.position) secs s.machine.step.extra
 
-abbrev pub extend_asks : Workout → ℕ → Progress → Answer
+abbrev pub extend_asks : Workout → ℕ → Progress → Result ⊤ Refusal
 extend_asks w secs s = extra_asks (extra_next w secs s)
 
 -- "What a question refuses as the cut list runs does nothing: a read, skip or extend is left out"
-unfoldable pub unless_refused : Answer → Progress → Machine → Progress
-unless_refused Accepted s m = record { machine = m; totals = s.totals }
-unless_refused (Refused refusal) s m = s
+unfoldable pub unless_refused : Result ⊤ Refusal → Progress → Machine → Progress
+unless_refused (Ok tt) s m = record { machine = m; totals = s.totals }
+unless_refused (Err refusal) s m = s
 
 -- "rides of 1 ms or more"
 unfoldable pub with_piece : Piece → Totals → Totals
@@ -126,9 +122,9 @@ with_piece q t = cond (eqb q.ms 0) t (record { ms = t.ms + q.ms; mm = t.mm + q.m
 
 -- "a ride lasts the milliseconds of its pieces that aren't refused": piece by piece. `pieces_at_once` says that this is
 -- riding their sum at once.
-unfoldable pub after_piece : Workout → TrainingProfile → Answer → Piece → Progress → Progress
-after_piece w p Accepted q s = record { machine = milliseconds w p q.ms s.machine; totals = with_piece q s.totals }
-after_piece w p (Refused refusal) q s = s
+unfoldable pub after_piece : Workout → TrainingProfile → Result ⊤ Refusal → Piece → Progress → Progress
+after_piece w p (Ok tt) q s = record { machine = milliseconds w p q.ms s.machine; totals = with_piece q s.totals }
+after_piece w p (Err refusal) q s = s
 
 unfoldable pub after_pieces : Workout → TrainingProfile → ℕ → ℕ → List Piece → Progress → Progress
 after_pieces w p kinds values [] s = s
@@ -146,26 +142,26 @@ after_calls w p (c ∷ l) s = after_calls w p l (after_call w p c.call c.pieces 
 
 -- The machine's own answers, one for each call of the cut list.
 
-unfoldable pub pieces_ask : Workout → TrainingProfile → ℕ → ℕ → List Piece → Progress → List Answer
+unfoldable pub pieces_ask : Workout → TrainingProfile → ℕ → ℕ → List Piece → Progress → List (Result ⊤ Refusal)
 pieces_ask w p kinds values [] s = []
 pieces_ask w p kinds values (q ∷ qs) s =
     piece_asks w kinds values s q ∷ pieces_ask w p kinds values qs (after_piece w p (piece_asks w kinds values s q) q s)
 
-unfoldable pub call_asks : Workout → TrainingProfile → Call → List Piece → Progress → List Answer
+unfoldable pub call_asks : Workout → TrainingProfile → Call → List Piece → Progress → List (Result ⊤ Refusal)
 call_asks w p (read sample) qs s = read_asks sample ∷ []
 call_asks w p (ride ms mm kinds values) qs s = pieces_ask w p kinds values qs s
 call_asks w p (skip kinds values) qs s = skip_asks w kinds values s ∷ []
 call_asks w p (extend secs metres) qs s = extend_asks w secs s ∷ []
 
-unfoldable pub calls_ask : Workout → TrainingProfile → List CutCall → Progress → List Answer
+unfoldable pub calls_ask : Workout → TrainingProfile → List CutCall → Progress → List (Result ⊤ Refusal)
 calls_ask w p [] s = []
 calls_ask w p (c ∷ l) s = call_asks w p c.call c.pieces s ++ calls_ask w p l (after_call w p c.call c.pieces s)
 
 -- "a ride lasts the milliseconds of its pieces that aren't refused": their sum.
 
-abbrev pub lasts_by : Answer → ℕ → ℕ
-lasts_by Accepted ms = ms
-lasts_by (Refused refusal) ms = 0
+abbrev pub lasts_by : Result ⊤ Refusal → ℕ → ℕ
+lasts_by (Ok tt) ms = ms
+lasts_by (Err refusal) ms = 0
 
 unfoldable pub lasts : Workout → TrainingProfile → ℕ → ℕ → List Piece → Progress → ℕ
 lasts w p kinds values [] s = 0

@@ -1,7 +1,6 @@
 -- Some rides, and what the machine makes of them; and that the third demand and the laws beside it are of something: a workout that is
 -- taken, a list cut in two ways with nothing refused, a call that is refused.
-use Rattle.std.specs.Prelude.{◌≡◌, true, List, [], ◌∷◌, ◌++◌, ℕ, ◌-◌, length, replicate}
-use Rattle.refusal.specs.declared.Answer.TheVariants.{Accepted, Refused}
+use Rattle.std.specs.Prelude.{◌≡◌, true, List, [], ◌∷◌, ◌++◌, ℕ, ◌-◌, length, replicate, Err, None, Ok, Option, Some}
 use Rattle.refusal.specs.declared.Refusal.TheVariants as refusals
 use Rattle.names.specs.Names.{empty_name}
 use Rattle.zones.specs.declared.TrainingProfile.{TrainingProfile}
@@ -19,8 +18,6 @@ use Rattle.model.specs.declared.Test.TheVariants as tests
 use Rattle.model.specs.declared.Step.{Step}
 use Rattle.model.specs.declared.Workout.{Workout}
 use Rattle.model.specs.Workout.{no_step, no_block}
-use Rattle.power.specs.declared.ReadingOption.{ReadingOption}
-use Rattle.power.specs.declared.ReadingOption.TheVariants.{None, Some}
 use Rattle.readings.specs.declared.Sample.{Sample}
 use Rattle.events.specs.Events.{Event}
 use Rattle.start.specs.Start.{new_of}
@@ -86,7 +83,7 @@ cut_once = read_watts 60 ∷ ride_in 500 200 300 ∷ other (extend 60 500) ∷ o
 abbrev pub cut_again : List CutCall
 cut_again = read_watts 60 ∷ ride_in 500 0 500 ∷ other (extend 60 500) ∷ other (extend 30 250) ∷ other (skip 193 193) ∷ []
 
-abbrev pub read_heart : ReadingOption → CutCall
+abbrev pub read_heart : Option ℕ → CutCall
 read_heart bpm = record { call = read (record { power_watts = Some 150; heart_bpm = bpm; cadence_tenths = None }); pieces = [] }
 
 -- The strap of `strap`'s rider falls off for 600 ms; the last 500 ms are after the finish.
@@ -105,7 +102,7 @@ event kind value = record { kind = kind; value = value }
 abbrev pub judged : Target → Sample → Judged
 judged target sample = judged_by target (band_of target profile 0) profile (sample ∷ [])
 
-abbrev pub watts : ReadingOption → Sample
+abbrev pub watts : Option ℕ → Sample
 watts power = record { power_watts = power; heart_bpm = None; cadence_tenths = None }
 
 abbrev pub heart : ℕ → Sample
@@ -125,7 +122,7 @@ pub record Samples : Type 0 where
   pub not_refused : AllAccepted (calls_ask single profile cut_once begun) × AllAccepted (calls_ask single profile cut_again begun)
   pub as_it_stands : AllAccepted (calls_ask single profile (alone (uncut cut_once)) begun)
   -- a player's call that is refused
-  pub skip_refused : (called profile (skip 3 2) (new_of single).player).answer ≡ Refused refusals.EventPlaces
+  pub skip_refused : (called profile (skip 3 2) (new_of single).player).answer ≡ Err refusals.EventPlaces
   -- "Readings 100, 101: 101.", and of three; one that is absent counts for nothing
   pub two : reading_for metrics.Power (watts (Some 101) ∷ watts (Some 100) ∷ []) ≡ Some 101
   pub three : reading_for metrics.Power (watts (Some 101) ∷ watts (Some 101) ∷ watts (Some 100) ∷ []) ≡ Some 101
@@ -187,13 +184,13 @@ pub record Samples : Type 0 where
   pub longer : (after single (other (extend 60 500) ∷ other (extend 30 250) ∷ ride_in 3000 1500 1500 ∷ [])).step ≡ record { position = 0; time = 3000; extra = 90 }
   -- 86,370 s of extra hold 30 s more and not 60; at the limit 0 s are let through and 1 s isn't, nor the most that a call can say
   pub limits : calls_ask single profile (other (extend 86370 0) ∷ other (extend 60 500) ∷ other (extend 30 250) ∷ other (extend 0 0) ∷ other (extend 1 0) ∷ other (extend 4294967295 0) ∷ []) begun
-      ≡ Accepted ∷ Refused refusals.Extra ∷ Accepted ∷ Accepted ∷ Refused refusals.Extra ∷ Refused refusals.Extra ∷ []
+      ≡ Ok tt ∷ Err refusals.Extra ∷ (Ok tt) ∷ (Ok tt) ∷ Err refusals.Extra ∷ Err refusals.Extra ∷ []
   -- the player's own: any amount of metres is nothing to a timed step
-  pub metres : (called profile (extend 86400 4294967295) (new_of single).player).answer ≡ Accepted
+  pub metres : (called profile (extend 86400 4294967295) (new_of single).player).answer ≡ Ok tt
   -- a piece is refused 12, a skip without places 14, and neither does anything
   pub refused : calls_ask single profile (too_far ∷ other (skip 3 2) ∷ []) begun
-      ≡ Refused refusals.Update ∷ Accepted ∷ Refused refusals.EventPlaces ∷ []
+      ≡ Err refusals.Update ∷ (Ok tt) ∷ Err refusals.EventPlaces ∷ []
   pub ridden : (after single (too_far ∷ other (skip 3 2) ∷ [])).step.time ≡ 500
   -- two steps want five places in each array, the second alone three, and a finished workout none
   pub places : calls_ask (pair tests.None) profile (other (skip 4 5) ∷ other (skip 5 4) ∷ other (skip 5 5) ∷ other (skip 3 2) ∷ other (skip 3 3) ∷ other (skip 0 0) ∷ []) begun
-      ≡ Refused refusals.EventPlaces ∷ Refused refusals.EventPlaces ∷ Accepted ∷ Refused refusals.EventPlaces ∷ Accepted ∷ Accepted ∷ []
+      ≡ Err refusals.EventPlaces ∷ Err refusals.EventPlaces ∷ (Ok tt) ∷ Err refusals.EventPlaces ∷ (Ok tt) ∷ (Ok tt) ∷ []

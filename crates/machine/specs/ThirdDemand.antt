@@ -12,10 +12,8 @@
 --
 -- The statement itself, `ThirdDemand`, stands below those definitions; `machine::third_demand` proves it. docs/READING.md has a legend
 -- of the notation.
-use Rattle.std.specs.Prelude.{◌≡◌, Bool, true, false, cond, ◌&&◌, not, List, [], ◌∷◌, reverse, ℕ, ◌<◌, leb, length, take}
+use Rattle.std.specs.Prelude.{◌≡◌, Bool, true, false, cond, ◌&&◌, not, List, [], ◌∷◌, reverse, ℕ, ◌<◌, leb, length, take, Err, Ok, Result, ⊤}
 use Rattle.common.specs.Lists.{all}
-use Rattle.refusal.specs.declared.Answer.{Answer}
-use Rattle.refusal.specs.declared.Answer.TheVariants.{Accepted, Refused}
 use Rattle.refusal.specs.declared.Refusal.{Refusal}
 use Rattle.zones.specs.declared.TrainingProfile.{TrainingProfile}
 use Rattle.zones.specs.Zones.{profile_ok}
@@ -57,7 +55,7 @@ is_plain s = not (is_distance s.length) && not (is_ramp s.target)
 
 -- "every workout without distance steps and ramp targets .. that pass document 01's questions"
 pub record Taken (w : Workout) : Type 0 where
-  pub passes : workout_answer w ≡ Accepted
+  pub passes : workout_answer w ≡ Ok tt
   pub plain : all is_plain (steps_of w) ≡ true
 
 -- What the types hold of a workout and a list: twelve places for steps, and 16 bits for a reading's power. `codec::workout_fits` and
@@ -103,9 +101,9 @@ pub record After (w : Workout) (p : TrainingProfile) (l : List CutCall) : Type 0
   pub answers : (cut_run w p l).answers ≡ calls_ask w p l begun
 
 -- Nothing is refused.
-abbrev pub AllAccepted : List Answer → Type 0
+abbrev pub AllAccepted : List (Result ⊤ Refusal) → Type 0
 AllAccepted [] = Unit
-AllAccepted (answer ∷ answers) = (answer ≡ Accepted) × AllAccepted answers
+AllAccepted (answer ∷ answers) = (answer ≡ Ok tt) × AllAccepted answers
 
 pub record Claim (w : Workout) (p : TrainingProfile) (l : List CutCall) : Type 0 where
   -- "at the start, and after each call of the uncut list"
@@ -138,7 +136,7 @@ pub record CuttingsAgree : Type 0 where
 -- "What is refused as the cut list runs counts for nothing in player": a refused call leaves the player and gives no events.
 abbrev pub RefusedStays : Type 0
 RefusedStays =
-    (p : TrainingProfile) (c : Call) (player : Player) (refusal : Refusal) → (called p c player).answer ≡ Refused refusal
+    (p : TrainingProfile) (c : Call) (player : Player) (refusal : Refusal) → (called p c player).answer ≡ Err refusal
     → ((called p c player).player ≡ player) × ((called p c player).events ≡ [])
 
 -- The greatest mean of neighbouring seconds is the same with the newest second first or last.

@@ -7,8 +7,6 @@ ghost use Rattle.machine.specs.Banded.{UnderBand};
 ghost use Rattle.machine.specs.Samples.{Samples};
 ghost use Rattle.machine.specs.ThirdDemand.{ThirdDemand, PiecesAtOnce, CuttingsAgree, RefusedStays, SecondsEitherWay};
 
-use power::ReadingOption;
-
 // The third demand: after each call of a list, cut as one likes, the record and the events are the millisecond machine's.
 pub fn third_demand()
     ensures { ThirdDemand }
@@ -45,11 +43,11 @@ pub fn sample_rides()
 {}
 
 // Every reading in memory has the 16 bits that the third demand supposes of it. (`codec::workout_fits` has a workout's twelve places.)
-pub fn reading_fits(reading: ReadingOption)
+pub fn reading_fits(reading: Option<u16>)
     ensures { or_zero reading < 65536 }
 {
     match reading {
-        ReadingOption::None => {}
-        ReadingOption::Some(_watts) => {}
+        None => {}
+        Some(_watts) => {}
     }
 }

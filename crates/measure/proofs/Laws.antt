@@ -1,13 +1,9 @@
 -- Laws of the tests' numbers.
 use mathlib.Core.Path.{◌≡◌, ap, ◌∙◌}
-use mathlib.Core.List.{List}
 use Prim.Native.Nat.{ℕ, suc, ◌+◌, ◌-◌, ◌*◌, ◌/◌, ◌≤◌, ◌<◌}
 use native.Mathlib.Nat.{div-lt_iff_lt-mul, div-zero, mul-le-mul_right}
-use native.Mathlib.Numerals.{add-one}
 use native.Mathlib.Omega.{arith}
-use lib.ListN.{length, get_or, drop, drop_of_length-le, length-set}
-use lib.Seq.{drop-cons}
-use Rattle.common.specs.Lists.{sum}
+use lib.ListN.{length, length-set}
 use Rattle.state.specs.State.{SmallEnergy}
 use Rattle.measure.specs.Measure.{Minute, Meter, pushed, pushes, ramp_part}
 
@@ -39,15 +35,6 @@ unfolding pushes
 pushes-end n i w m h =
     let left : n - i ≡ 0 = omega arith in
     ap (λ (k : ℕ). pushes 60 k w m) left
-
--- one number more has been added, or all have
-pub sum_more : (xs : List ℕ) (i : ℕ) → i < length xs → get_or xs i 0 + sum (drop (i + 1) xs) ≡ sum (drop i xs)
-unfolding sum
-sum_more xs i h = rw (add-one, drop-cons xs i 0)
-
-pub sum_done : (xs : List ℕ) (i : ℕ) → length xs ≤ i → sum (drop i xs) ≡ 0
-unfolding sum
-sum_done xs i h = rw (drop_of_length-le xs h)
 
 -- a minute keeps its places
 pub places-kept : (m : Minute) (w : ℕ) → length (pushed 60 w m).watts ≡ length m.watts

@@ -1,5 +1,5 @@
 -- player.rs's tests: the twenty minutes' sums, the ramp's minutes, and the FTP that they give.
-use Rattle.std.specs.Prelude.{Bool, false, cond, ◌&&◌, List, ℕ, zero, suc, ◌+◌, ◌*◌, ◌/◌, ◌%◌, ◌≤◌, ◌<◌, min, max, ltb, leb, eqb, set}
+use Rattle.std.specs.Prelude.{Bool, false, cond, ◌&&◌, List, ℕ, zero, suc, ◌+◌, ◌*◌, ◌/◌, ◌%◌, ◌≤◌, ◌<◌, min, max, ltb, leb, eqb, set, None, Option, Some}
 use Rattle.common.specs.Lists.{sum}
 use Rattle.zones.specs.declared.TrainingProfile.{TrainingProfile}
 use Rattle.model.specs.declared.Intensity.{Intensity}
@@ -10,11 +10,8 @@ use Rattle.model.specs.declared.Length.TheVariants.{Time, Distance, Open}
 use Rattle.model.specs.declared.Test.{Test}
 use Rattle.model.specs.declared.Test.TheVariants.{Twenty}
 use Rattle.model.specs.declared.Test.TheVariants as tests
-use Rattle.model.specs.declared.RampOption.{RampOption}
-use Rattle.model.specs.declared.RampOption.TheVariants as ramps
+use Rattle.model.specs.declared.Ramp.{Ramp}
 use Rattle.model.specs.Target.{ramp_option, watts_at}
-use Rattle.power.specs.declared.ReadingOption.{ReadingOption}
-use Rattle.power.specs.declared.ReadingOption.TheVariants.{None, Some}
 use Rattle.readings.specs.declared.Readings.{Readings}
 use Rattle.power.specs.Power.{or_zero, average_of}
 use Rattle.state.specs.declared.Ring.{Ring}
@@ -37,12 +34,12 @@ abbrev pub mean_of : ℕ → List ℕ → ℕ
 mean_of seconds watts = (sum watts + seconds / 2) / seconds
 
 -- The greater of the best so far, if there is one, and another.
-abbrev pub above : ReadingOption → ℕ → ℕ
+abbrev pub above : Option ℕ → ℕ → ℕ
 above None mean = mean
 above (Some best) mean = max best mean
 
 -- The best minute once the minute, of so many seconds, is full.
-abbrev pub best_after : Bool → ℕ → ReadingOption → List ℕ → ReadingOption
+abbrev pub best_after : Bool → ℕ → Option ℕ → List ℕ → Option ℕ
 best_after full seconds best watts = cond full (Some (above best (mean_of seconds watts))) best
 
 -- One second more in a minute of so many seconds.
@@ -82,12 +79,12 @@ test_in Cooldown test = tests.None
 test_in intensities.Test test = test
 
 -- The watts that a ramp asks for some seconds into its step, 0 without a ramp.
-abbrev pub ramp_target : RampOption → ℕ → ℕ
-ramp_target ramps.None secs = 0
-ramp_target (ramps.Some ramp) secs = watts_at ramp secs
+abbrev pub ramp_target : Option Ramp → ℕ → ℕ
+ramp_target None secs = 0
+ramp_target (Some ramp) secs = watts_at ramp secs
 
 -- How long the rider has been under 90 % of the ramp. Without an average nothing is known.
-abbrev pub low_by : ℕ → ReadingOption → ℕ → ℕ → ℕ
+abbrev pub low_by : ℕ → Option ℕ → ℕ → ℕ → ℕ
 low_by target None ms low = low
 low_by target (Some watts) ms low = cond (leb (target * 90) (watts * 100)) 0 (low + ms)
 
@@ -145,35 +142,35 @@ pub record MeasureFits (m : Measured) (step-ms ms : ℕ) : Type 0 where
 -- The result.
 
 -- "Only 50 to 600 is kept."
-abbrev pub kept_ftp : ℕ → ReadingOption
+abbrev pub kept_ftp : ℕ → Option ℕ
 kept_ftp watts = cond (leb 50 watts && leb watts 600) (Some watts) None
 
 -- "unless .. test time is below that step's 1,000 × (seconds + extra), mean (sum + time / 2) / time, then (mean × 95 + 50) / 100"
-unfoldable pub twenty_ftp : ℕ → Measured → ReadingOption
+unfoldable pub twenty_ftp : ℕ → Measured → Option ℕ
 twenty_ftp end m =
     cond (ltb m.test_ms end) None (kept_ftp (((m.test_mj + m.test_ms / 2) / m.test_ms * 95 + 50) / 100))
 
 -- Only a timed step has seconds.
-abbrev pub twenty_by : Length → Lap → Measured → ReadingOption
+abbrev pub twenty_by : Length → Lap → Measured → Option ℕ
 twenty_by (Time secs) lap m = twenty_ftp (duration_ms secs lap) m
 twenty_by (Distance metres) lap m = None
 twenty_by Open lap m = None
 
 -- "`Ramp`: the greatest (sum + 30) / 60 of 60 neighbouring seconds, × 75, + 50, / 100"
-abbrev pub ramp_ftp : ReadingOption → ReadingOption
+abbrev pub ramp_ftp : Option ℕ → Option ℕ
 ramp_ftp None = None
 ramp_ftp (Some best) = kept_ftp ((best * 75 + 50) / 100)
 
-abbrev pub result_by : Test → Length → Lap → Bool → Measured → ReadingOption
+abbrev pub result_by : Test → Length → Lap → Bool → Measured → Option ℕ
 result_by tests.None l lap skipped m = None
 result_by Twenty l lap skipped m = cond skipped None (twenty_by l lap m)
 result_by tests.Ramp l lap skipped m = ramp_ftp m.ring.best_minute
 
 -- player.rs, `result`: of the step that is ending, skipped or not.
-unfoldable pub result_of : Test → StepNow → Lap → Bool → Measured → ReadingOption
+unfoldable pub result_of : Test → StepNow → Lap → Bool → Measured → Option ℕ
 result_of test on lap skipped m = result_by (test_in on.intensity test) on.length lap skipped m
 
 -- player.rs, `ramp_failed`: under the ramp for 10 s, and past its first stage.
-abbrev pub ramp_failed : RampOption → ℕ → ℕ → Bool
-ramp_failed ramps.None step-ms low = false
-ramp_failed (ramps.Some ramp) step-ms low = leb (ramp.every * 1000) step-ms && leb 10000 low
+abbrev pub ramp_failed : Option Ramp → ℕ → ℕ → Bool
+ramp_failed None step-ms low = false
+ramp_failed (Some ramp) step-ms low = leb (ramp.every * 1000) step-ms && leb 10000 low

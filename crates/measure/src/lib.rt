@@ -7,49 +7,36 @@ ghost use Rattle.common.specs.Lists.{sum};
 ghost use Rattle.state.specs.State.{duration_ms, SmallEnergy};
 ghost use Rattle.measure.specs.Measure.{above, best_after, minute_of, pushed, pushes, test_in, ramp_target, low_by, with_twenty, meter, ramp_part, measured_of, MeasureFits, kept_ftp, twenty_ftp, twenty_by, ramp_ftp, result_of, ramp_failed};
 
-use model::{Intensity, Length, RampOption, Test};
-use power::ReadingOption;
+use model::{Intensity, Length, Ramp, Test};
 use readings::Readings;
 use state::{Lap, Measured, Ring, StepNow};
 use zones::TrainingProfile;
-
-fn wide(watts: u16) -> u32
-    ensures { (result ≡ watts) × (result ≤ 65535) }
-{
-    watts as u32
-}
 
 fn minute_sum(minute: &[u16; 60]) -> u32
     requires { length minute.now ≡ 60 }
     ensures { (result ≡ sum minute.now) × (result ≤ 3932100) }
 {
-    let mut total: u32 = 0;
-    let mut i: usize = 0;
-    while i < 60 {
-        total += wide(minute[i]);
-        i += 1;
-    }
-    total
+    minute.iter().map(|watts| u32::from(*watts)).sum()
 }
 
 // The better of the best minute so far and another.
-fn better(best: ReadingOption, mean: u16) -> u16
+fn better(best: Option<u16>, mean: u16) -> u16
     ensures { result ≡ above best mean }
 {
     match best {
-        ReadingOption::None => mean,
-        ReadingOption::Some(watts) => { if watts < mean { mean } else { watts } }
+        None => mean,
+        Some(watts) => watts.max(mean),
     }
 }
 
 // The best minute, once the minute is full.
-fn best_after(best: ReadingOption, len: u8, minute: &[u16; 60]) -> ReadingOption
+fn best_after(best: Option<u16>, len: u8, minute: &[u16; 60]) -> Option<u16>
     requires { length minute.now ≡ 60 }
     ensures { result ≡ best_after (eqb len 60) 60 best minute.now }
 {
     if len == 60 {
         let mean = ((minute_sum(minute) + 30) / 60) as u16;
-        return ReadingOption::Some(better(best, mean));
+        return Some(better(best, mean));
     }
     best
 }
@@ -74,7 +61,7 @@ fn push_second(ring: Ring, watts: u16, minute: &mut [u16; 60]) -> Ring
 fn one_more(len: u8) -> u8
     ensures { result ≡ min (len + 1) 60 }
 {
-    if len < 59 { len + 1 } else { 60 }
+    len.min(59) + 1
 }
 
 // `count` seconds of `watts` more.
@@ -83,10 +70,8 @@ fn push_seconds(ring: Ring, count: u64, watts: u16, minute: &mut [u16; 60]) -> R
     ensures { minute_of result minute.new ≡ pushes 60 count watts (minute_of ring minute.old) }
 {
     let mut r = ring;
-    let mut i: u64 = 0;
-    while i < count {
+    for _ in 0..count {
         r = push_second(r, watts, minute);
-        i += 1;
     }
     r
 }
@@ -105,23 +90,23 @@ pub fn test_in(intensity: Intensity, test: Test) -> Test
 }
 
 // The watts a ramp asks for, 0 without a ramp.
-fn ramp_target(ramp: RampOption, secs: u32) -> u16
+fn ramp_target(ramp: Option<Ramp>, secs: u32) -> u16
     ensures { result ≡ ramp_target ramp secs }
 {
     match ramp {
-        RampOption::None => 0,
-        RampOption::Some(found) => found.watts(secs),
+        None => 0,
+        Some(found) => found.watts(secs),
     }
 }
 
 // How long the rider has been under 90 % of the ramp, after `ms` more. Without a power reading there is no evidence either way.
-fn low_after(target: u16, average: ReadingOption, ms: u64, low: u64) -> u64
+fn low_after(target: u16, average: Option<u16>, ms: u64, low: u64) -> u64
     requires { low + ms ≤ 604800000 }
     ensures { result ≡ low_by target average ms low }
 {
     match average {
-        ReadingOption::None => low,
-        ReadingOption::Some(watts) => {
+        None => low,
+        Some(watts) => {
             if (target as u32) * 90 <= (watts as u32) * 100 {
                 0
             } else {
@@ -142,12 +127,6 @@ fn twenty(measured: Measured, watts: u16, ms: u64) -> Measured
     q
 }
 
-fn least(a: u64, b: u64) -> u64
-    ensures { result ≡ min a b }
-{
-    if a < b { a } else { b }
-}
-
 // One place of the minute per whole second ridden, however updates fall; more than a minute at once fills it once.
 fn ramp_part(measured: Measured, watts: u16, ms: u64, low: u64, minute: &mut [u16; 60]) -> Measured
     requires { (measured.ring.minute_at < 60) × (measured.minute_rest_ms < 1000) × (ms ≤ 604800000) × (length minute.old ≡ 60) }
@@ -155,7 +134,7 @@ fn ramp_part(measured: Measured, watts: u16, ms: u64, low: u64, minute: &mut [u1
 {
     let total = measured.minute_rest_ms + ms;
     let ring = measured.ring;
-    let filled = push_seconds(ring, least(total / 1000, 60), watts, minute);
+    let filled = push_seconds(ring, (total / 1000).min(60), watts, minute);
     let mut q = measured;
     q.minute_rest_ms = total % 1000;
     q.ramp_low_ms = low;
@@ -180,7 +159,7 @@ pub fn measure(
     let intensity = on.intensity;
     let sample = readings.last_sample;
     let reading = sample.power_watts;
-    let watts = reading.or_zero();
+    let watts = reading.unwrap_or(0);
     match test_in(intensity, test) {
         Test::None => measured,
         Test::Twenty => twenty(measured, watts, ms),
@@ -195,58 +174,58 @@ pub fn measure(
 }
 
 // An FTP that counts.
-fn kept_ftp(watts: u64) -> ReadingOption
+fn kept_ftp(watts: u64) -> Option<u16>
     ensures { result ≡ kept_ftp watts }
 {
     if watts < 50 {
-        return ReadingOption::None;
+        return None;
     }
     if 600 < watts {
-        return ReadingOption::None;
+        return None;
     }
-    ReadingOption::Some(watts as u16)
+    Some(watts as u16)
 }
 
 // 95 % of the average power, of the whole step.
-fn twenty_ftp(measured: Measured, end_ms: u64) -> ReadingOption
+fn twenty_ftp(measured: Measured, end_ms: u64) -> Option<u16>
     requires { SmallEnergy measured × (measured.test_ms ≤ 604800000) }
     ensures { result ≡ twenty_ftp end_ms measured }
 {
     let ms = measured.test_ms;
     if ms < end_ms {
-        return ReadingOption::None;
+        return None;
     }
     if ms == 0 {
-        return ReadingOption::None;
+        return None;
     }
     let average = (measured.test_mj + ms / 2) / ms;
     kept_ftp((average * 95 + 50) / 100)
 }
 
-fn twenty_result(lasts: Length, lap: Lap, measured: Measured) -> ReadingOption
+fn twenty_result(lasts: Length, lap: Lap, measured: Measured) -> Option<u16>
     requires { SmallEnergy measured × (measured.test_ms ≤ 604800000) }
     ensures { result ≡ twenty_by lasts lap measured }
 {
     match lasts {
         Length::Time(secs) => twenty_ftp(measured, lap.duration_ms(secs)),
-        Length::Distance(_) => ReadingOption::None,
-        Length::Open => ReadingOption::None,
+        Length::Distance(_) => None,
+        Length::Open => None,
     }
 }
 
 // 75 % of the best minute.
-fn ramp_result(best: ReadingOption) -> ReadingOption
+fn ramp_result(best: Option<u16>) -> Option<u16>
     ensures { result ≡ ramp_ftp best }
 {
     match best {
-        ReadingOption::None => ReadingOption::None,
-        ReadingOption::Some(watts) => kept_ftp(((watts as u64) * 75 + 50) / 100),
+        None => None,
+        Some(watts) => kept_ftp(((watts as u64) * 75 + 50) / 100),
     }
 }
 
 // The FTP the step that is ending measured, if it is a test's and counts: the whole twenty minutes, or a ramp with at least one
 // full minute.
-pub fn result(measured: Measured, test: Test, on: StepNow, lap: Lap, skipped: bool) -> ReadingOption
+pub fn result(measured: Measured, test: Test, on: StepNow, lap: Lap, skipped: bool) -> Option<u16>
     requires { SmallEnergy measured × (measured.test_ms ≤ 604800000) }
     ensures { result ≡ result_of test on lap skipped measured }
 {
@@ -255,10 +234,10 @@ pub fn result(measured: Measured, test: Test, on: StepNow, lap: Lap, skipped: bo
     let ring = measured.ring;
     let best = ring.best_minute;
     match test_in(intensity, test) {
-        Test::None => ReadingOption::None,
+        Test::None => None,
         Test::Twenty => {
             if skipped {
-                return ReadingOption::None;
+                return None;
             }
             twenty_result(length, lap, measured)
         }
@@ -267,11 +246,11 @@ pub fn result(measured: Measured, test: Test, on: StepNow, lap: Lap, skipped: bo
 }
 
 // A ramp ends after the rider stays under it for 10 s, but not in its first stage.
-pub fn ramp_failed(ramp: RampOption, step_ms: u64, low: u64) -> bool
+pub fn ramp_failed(ramp: Option<Ramp>, step_ms: u64, low: u64) -> bool
     ensures { result ≡ ramp_failed ramp step_ms low }
 {
     match ramp {
-        RampOption::None => false,
-        RampOption::Some(found) => ((found.every as u64) * 1000 <= step_ms) & (10000 <= low),
+        None => false,
+        Some(found) => ((found.every as u64) * 1000 <= step_ms) & (10000 <= low),
     }
 }

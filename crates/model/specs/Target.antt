@@ -1,5 +1,5 @@
 -- model.rs: what a target asks of a rider under a profile, some seconds into its step.
-use Rattle.std.specs.Prelude.{ℕ, ◌+◌, ◌-◌, ◌*◌, ◌/◌, ◌%◌, min, max}
+use Rattle.std.specs.Prelude.{ℕ, ◌+◌, ◌-◌, ◌*◌, ◌/◌, ◌%◌, min, max, None, Option, Some}
 use Rattle.zones.specs.declared.TrainingProfile.{TrainingProfile}
 use Rattle.zones.specs.Zones.{percent_of, heart_range}
 use Rattle.model.specs.declared.Target.{Target}
@@ -8,11 +8,7 @@ use Rattle.model.specs.declared.Target.TheVariants as targets
 use Rattle.model.specs.declared.Metric.{Metric}
 use Rattle.model.specs.declared.Metric.TheVariants as metrics
 use Rattle.model.specs.declared.Ramp.{Ramp}
-use Rattle.model.specs.declared.RampOption.{RampOption}
-use Rattle.model.specs.declared.RampOption.TheVariants as ramps
 use Rattle.model.specs.declared.Band.{Band}
-use Rattle.model.specs.declared.BandOption.{BandOption}
-use Rattle.model.specs.declared.BandOption.TheVariants as bands
 
 -- A percentage as a 16-bit number that tops out.
 unfoldable pub capped : ℕ → ℕ → ℕ
@@ -50,23 +46,23 @@ of_ftp start step every p =
     }
 
 -- "a ramp target is kind 6 or 7"
-unfoldable pub ramp_option : Target → TrainingProfile → RampOption
-ramp_option Free p = ramps.None
-ramp_option (Ftp low high) p = ramps.None
-ramp_option (Watts low high) p = ramps.None
-ramp_option (HeartZone zone) p = ramps.None
-ramp_option (Lthr low high) p = ramps.None
-ramp_option (Cadence low high) p = ramps.None
-ramp_option (targets.Ramp start step every) p = ramps.Some (record { start = start; step = step; every = every })
-ramp_option (FtpRamp start step every) p = ramps.Some (of_ftp start step every p)
+unfoldable pub ramp_option : Target → TrainingProfile → Option Ramp
+ramp_option Free p = None
+ramp_option (Ftp low high) p = None
+ramp_option (Watts low high) p = None
+ramp_option (HeartZone zone) p = None
+ramp_option (Lthr low high) p = None
+ramp_option (Cadence low high) p = None
+ramp_option (targets.Ramp start step every) p = Some (record { start = start; step = step; every = every })
+ramp_option (FtpRamp start step every) p = Some (of_ftp start step every p)
 
 -- The band of a target, some seconds into its step.
-unfoldable pub band_of : Target → TrainingProfile → ℕ → BandOption
-band_of Free p elapsed = bands.None
-band_of (Ftp low high) p elapsed = bands.Some (band metrics.Power (capped p.ftp_watts low) (capped p.ftp_watts high))
-band_of (Watts low high) p elapsed = bands.Some (band metrics.Power low high)
-band_of (HeartZone zone) p elapsed = bands.Some (band metrics.Heart (wrapped (heart_range p zone).low) (wrapped ((heart_range p zone).next - 1)))
-band_of (Lthr low high) p elapsed = bands.Some (band metrics.Heart (capped p.lthr_bpm low) (capped p.lthr_bpm high))
-band_of (Cadence low high) p elapsed = bands.Some (band metrics.Cadence low high)
-band_of (targets.Ramp start step every) p elapsed = bands.Some (ramp_band (record { start = start; step = step; every = every }) elapsed)
-band_of (FtpRamp start step every) p elapsed = bands.Some (ramp_band (of_ftp start step every p) elapsed)
+unfoldable pub band_of : Target → TrainingProfile → ℕ → Option Band
+band_of Free p elapsed = None
+band_of (Ftp low high) p elapsed = Some (band metrics.Power (capped p.ftp_watts low) (capped p.ftp_watts high))
+band_of (Watts low high) p elapsed = Some (band metrics.Power low high)
+band_of (HeartZone zone) p elapsed = Some (band metrics.Heart (wrapped (heart_range p zone).low) (wrapped ((heart_range p zone).next - 1)))
+band_of (Lthr low high) p elapsed = Some (band metrics.Heart (capped p.lthr_bpm low) (capped p.lthr_bpm high))
+band_of (Cadence low high) p elapsed = Some (band metrics.Cadence low high)
+band_of (targets.Ramp start step every) p elapsed = Some (ramp_band (record { start = start; step = step; every = every }) elapsed)
+band_of (FtpRamp start step every) p elapsed = Some (ramp_band (of_ftp start step every p) elapsed)

@@ -2,7 +2,7 @@
 // The rest of model.rs stands in `names` (`Name`), `blocks` (sound blocks), `order` (the playing order) and `validation` (`validate`).
 #![tactic(auto)]
 
-ghost use Rattle.std.specs.Prelude.{◌≡◌, max};
+ghost use Rattle.std.specs.Prelude.{◌≡◌};
 ghost use Rattle.model.specs.Target.{band_of, ramp_option, ramp_band, of_ftp, capped, wrapped, stage_of, stage_watts, watts_at};
 ghost use Rattle.model.specs.Workout.{empty_workout};
 
@@ -19,7 +19,7 @@ pub const MAX_PLAYED: usize = 96;
 pub const MIN_DISTANCE_M: u32 = 100;
 
 // What a step is for.
-#[derive(Clone, Copy, Drop)]
+#[derive(Clone, Copy, Drop, PartialEq, Eq)]
 pub enum Intensity {
     Warmup,
     Work,
@@ -30,7 +30,7 @@ pub enum Intensity {
 }
 
 // How long a step lasts.
-#[derive(Clone, Copy, Drop)]
+#[derive(Clone, Copy, Drop, PartialEq, Eq)]
 pub enum Length {
     // Recorded (active) seconds; a pause adds none.
     Time(u16),
@@ -41,7 +41,7 @@ pub enum Length {
 }
 
 // What the rider aims for during a step.
-#[derive(Clone, Copy, Drop)]
+#[derive(Clone, Copy, Drop, PartialEq, Eq)]
 pub enum Target {
     // Ride as you feel; nothing is checked.
     Free,
@@ -69,13 +69,6 @@ pub struct Ramp {
     pub every: u16,
 }
 
-// A target's ramp, if it has one.
-#[derive(Clone, Copy, Drop)]
-pub enum RampOption {
-    None,
-    Some(Ramp),
-}
-
 // What a target measures, once resolved against the profile.
 #[derive(Clone, Copy, Drop)]
 pub enum Metric {
@@ -92,14 +85,7 @@ pub struct Band {
     pub high: u16,
 }
 
-// A target's band, if it has one.
-#[derive(Clone, Copy, Drop)]
-pub enum BandOption {
-    None,
-    Some(Band),
-}
-
-#[derive(Clone, Copy, Drop)]
+#[derive(Clone, Copy, Drop, PartialEq, Eq)]
 pub struct Step {
     pub intensity: Intensity,
     pub length: Length,
@@ -109,7 +95,7 @@ pub struct Step {
 }
 
 // `count` runs of the `len` steps from `first`.
-#[derive(Clone, Copy, Drop)]
+#[derive(Clone, Copy, Drop, PartialEq, Eq)]
 pub struct Block {
     pub first: u8,
     pub len: u8,
@@ -155,6 +141,7 @@ pub const NO_BLOCK: Block = Block {
 };
 
 // The workout without name, steps, blocks or test.
+#[tactic(auto, unfolding(crate::specs::Workout::empty_workout))]
 pub fn empty_workout() -> Workout
     ensures { result ≡ empty_workout }
 {
@@ -170,11 +157,11 @@ pub fn empty_workout() -> Workout
 }
 
 // `pct` percent of `base`, topping out instead of overflowing.
+#[tactic(auto, unfolding(crate::specs::Target::capped))]
 fn capped_percent(base: u16, pct: u8) -> u16
     ensures { result ≡ capped base pct }
 {
-    let whole = zones::percent(base, pct);
-    if whole < 65535 { whole as u16 } else { 65535 }
+    zones::percent(base, pct).min(65535) as u16
 }
 
 // The low 16 bits, which `as u16` keeps in the Rust.
@@ -184,29 +171,26 @@ fn low_bits(n: u32) -> u16
     (n % 65536) as u16
 }
 
-fn at_least_1(n: u16) -> u16
-    ensures { result ≡ max n 1 }
-{
-    if n == 0 { 1 } else { n }
-}
-
 impl Ramp {
     // The stage `elapsed_s` into the ramp, the first being 0.
+    #[tactic(auto, unfolding(crate::specs::Target::stage_of))]
     pub fn stage(self, elapsed_s: u32) -> u32
         ensures { result ≡ stage_of self elapsed_s }
     {
-        elapsed_s / (at_least_1(self.every) as u32)
+        elapsed_s / (self.every.max(1) as u32)
     }
 
     // The watts of `stage`, topping out instead of overflowing.
+    #[tactic(auto, unfolding(crate::specs::Target::stage_watts))]
     pub fn stage_watts(self, stage: u32) -> u16
         ensures { result ≡ stage_watts self stage }
     {
         let watts = (self.start as u64) + (stage as u64) * (self.step as u64);
-        if watts < 65535 { watts as u16 } else { 65535 }
+        watts.min(65535) as u16
     }
 
     // The watts `elapsed_s` into the ramp.
+    #[tactic(auto, unfolding(crate::specs::Target::watts_at))]
     pub fn watts(self, elapsed_s: u32) -> u16
         ensures { result ≡ watts_at self elapsed_s }
     {
@@ -214,6 +198,7 @@ impl Ramp {
     }
 
     // The band around the ramp's watts.
+    #[tactic(auto, unfolding(crate::specs::Target::ramp_band))]
     fn band(self, elapsed_s: u32) -> Band
         ensures { result ≡ ramp_band self elapsed_s }
     {
@@ -227,77 +212,75 @@ impl Ramp {
 }
 
 // A ramp in percent of FTP as one in watts.
+#[tactic(auto, unfolding(crate::specs::Target::of_ftp))]
 fn ftp_ramp(start: u8, step: u8, every: u16, profile: TrainingProfile) -> Ramp
     ensures { result ≡ of_ftp start step every profile }
 {
     let ftp = profile.ftp_watts;
     Ramp {
         start: low_bits(zones::percent(ftp, start)),
-        step: at_least_1(low_bits(zones::percent(ftp, step))),
+        step: low_bits(zones::percent(ftp, step)).max(1),
         every,
     }
 }
 
 impl Target {
     // The ramp in watts for `profile`; `None` for any other target.
-    pub fn ramp(self, profile: TrainingProfile) -> RampOption
+    #[tactic(auto, unfolding(crate::specs::Target::ramp_option))]
+    pub fn ramp(self, profile: TrainingProfile) -> Option<Ramp>
         ensures { result ≡ ramp_option self profile }
     {
         match self {
-            Target::Free => RampOption::None,
-            Target::Ftp { low: _, high: _ } => RampOption::None,
-            Target::Watts { low: _, high: _ } => RampOption::None,
-            Target::HeartZone(_) => RampOption::None,
-            Target::Lthr { low: _, high: _ } => RampOption::None,
-            Target::Cadence { low: _, high: _ } => RampOption::None,
-            Target::Ramp { start, step, every } => RampOption::Some(Ramp { start, step, every }),
+            Target::Ramp { start, step, every } => Some(Ramp { start, step, every }),
             Target::FtpRamp { start, step, every } => {
-                RampOption::Some(ftp_ramp(start, step, every, profile))
+                Some(ftp_ramp(start, step, every, profile))
             }
+            _ => None,
         }
     }
 
     // The band this target asks for `elapsed_s` into its step; `None` for a free ride.
-    pub fn band(self, profile: TrainingProfile, elapsed_s: u32) -> BandOption
+    #[tactic(auto, unfolding(crate::specs::Target::band_of))]
+    pub fn band(self, profile: TrainingProfile, elapsed_s: u32) -> Option<Band>
         ensures { result ≡ band_of self profile elapsed_s }
     {
         match self {
-            Target::Free => BandOption::None,
-            Target::Ftp { low, high } => BandOption::Some(Band {
+            Target::Free => None,
+            Target::Ftp { low, high } => Some(Band {
                 metric: Metric::Power,
                 low: capped_percent(profile.ftp_watts, low),
                 high: capped_percent(profile.ftp_watts, high),
             }),
-            Target::Watts { low, high } => BandOption::Some(Band {
+            Target::Watts { low, high } => Some(Band {
                 metric: Metric::Power,
                 low,
                 high,
             }),
             Target::HeartZone(zone) => {
                 let range = profile.heart_range(zone);
-                BandOption::Some(Band {
+                Some(Band {
                     metric: Metric::Heart,
                     low: low_bits(range.low),
                     high: low_bits(range.next - 1),
                 })
             }
-            Target::Lthr { low, high } => BandOption::Some(Band {
+            Target::Lthr { low, high } => Some(Band {
                 metric: Metric::Heart,
                 low: capped_percent(profile.lthr_bpm, low),
                 high: capped_percent(profile.lthr_bpm, high),
             }),
-            Target::Cadence { low, high } => BandOption::Some(Band {
+            Target::Cadence { low, high } => Some(Band {
                 metric: Metric::Cadence,
                 low: low as u16,
                 high: high as u16,
             }),
             Target::Ramp { start, step, every } => {
                 let ramp = Ramp { start, step, every };
-                BandOption::Some(ramp.band(elapsed_s))
+                Some(ramp.band(elapsed_s))
             }
             Target::FtpRamp { start, step, every } => {
                 let ramp = ftp_ramp(start, step, every, profile);
-                BandOption::Some(ramp.band(elapsed_s))
+                Some(ramp.band(elapsed_s))
             }
         }
     }

@@ -2,6 +2,7 @@
 use mathlib.Core.Path.{◌≡◌, refl, ap, ap₂, ◌∙◌}
 use mathlib.Core.Bool.{true, ◌&&◌}
 use mathlib.Core.List.{List, ◌++◌, map}
+use lib.Seq.{take-length}
 use Prim.Native.Nat.{ℕ, zero, suc, ◌-◌, min}
 use native.Mathlib.Omega.{arith}
 use lib.ListN.{length, take, replicate, length-take, length-map}
@@ -17,14 +18,14 @@ abbrev named : List ℕ → ℕ → Name
 named bytes len = record { bytes = bytes; len = len }
 
 -- the first n bytes of a text, each as it can be drawn, where n is the text's length or 20
-pub name-made : (text bytes : List ℕ) (n i : ℕ) → n ≡ min (length text) 20 → i ≡ n → bytes ≡ map drawn (take i text) ++ replicate (20 - i) 0
-    → named bytes n ≡ name_from text
+pub name-made : (text bytes : List ℕ) (n i : ℕ) → n ≡ min (length text) 20 → i ≡ length (take n text)
+    → bytes ≡ map drawn (take i (take n text)) ++ replicate (20 - i) 0 → named bytes n ≡ name_from text
 unfolding name_from
 name-made text bytes n i e f b =
-    let long : i ≡ length (map drawn (take 20 text)) = omega (arith, length-map (take 20 text) drawn, length-take 20 text) in
+    let taken : take i (take n text) ≡ take 20 text = ap (λ (k : ℕ). take k (take n text)) f ∙ take-length (take n text) ∙ ap (λ (k : ℕ). take k text) e ∙ take-least 20 text in
     let len : n ≡ length (take 20 text) = omega (arith, length-take 20 text) in
     ap₂ named
-    (b ∙ ap₂ (λ (xs : List ℕ) (k : ℕ). map drawn xs ++ replicate (20 - k) 0) (ap (λ (k : ℕ). take k text) (f ∙ e) ∙ take-least 20 text) long)
+    (b ∙ ap₂ (λ (xs : List ℕ) (k : ℕ). map drawn xs ++ replicate (20 - k) 0) taken (omega (arith, length-map (take 20 text) drawn, length-take 20 text, length-take n text)))
     len
 
 -- a name of no bytes passes question 5 exactly when its padding is 0

@@ -1,5 +1,5 @@
 -- model.rs's `Name`, and what document 01 allows in one.
-use Rattle.std.specs.Prelude.{Bool, cond, ◌&&◌, ◌||◌, List, map, ℕ, ◌-◌, ltb, leb, eqb, length, take, drop, replicate}
+use Rattle.std.specs.Prelude.{Bool, cond, ◌&&◌, ◌||◌, List, map, ℕ, ◌-◌, leb, eqb, length, take, drop, replicate}
 use Rattle.common.specs.Lists.{all, padded}
 use Rattle.names.specs.declared.Name.{Name}
 
@@ -32,7 +32,3 @@ name_ok n = leb n.len 20 && (all allowed (take n.len n.bytes) && all is_zero (dr
 -- The name is the empty one, padding included.
 abbrev pub is_blank : Name → Bool
 is_blank n = eqb n.len 0 && all is_zero n.bytes
-
--- The byte at a place of a name of a length: one of the text, or 0 past it.
-abbrev pub placed : ℕ → ℕ → ℕ → Bool
-placed len at b = cond (ltb at len) (allowed b) (is_zero b)

@@ -2,14 +2,12 @@
 #![tactic(auto)]
 
 ghost use Rattle.std.specs.Prelude.{◌≡◌};
-ghost use Rattle.names.specs.Names.{allowed, drawn, name_ok, name_from, placed, empty_name, is_blank};
-
-use common::least;
+ghost use Rattle.names.specs.Names.{allowed, drawn, name_ok, name_from, empty_name, is_blank};
 
 // Bytes in a workout or step name.
 pub const NAME_BYTES: usize = 20;
 
-#[derive(Clone, Copy, Drop)]
+#[derive(Clone, Copy, Drop, PartialEq, Eq)]
 pub struct Name {
     pub bytes: [u8; 20],
     pub len: u8,
@@ -35,17 +33,6 @@ pub fn allowed_byte(byte: u8) -> bool
     ((32 <= byte) & (byte <= 96)) | ((123 <= byte) & (byte <= 126))
 }
 
-// The byte at place `at` of a name of `len` bytes: one of the text, or 0 past it.
-fn placed_byte(len: u8, at: usize, byte: u8) -> bool
-    ensures { result ≡ placed len at byte }
-{
-    if at < (len as usize) {
-        allowed_byte(byte)
-    } else {
-        byte == 0
-    }
-}
-
 impl Name {
     // A name without bytes.
     pub fn empty() -> Self
@@ -61,12 +48,10 @@ impl Name {
     pub fn from_bytes(text: &[u8]) -> Self
         ensures { result ≡ name_from text.now }
     {
-        let n = least(text.len(), NAME_BYTES);
+        let n = text.len().min(NAME_BYTES);
         let mut bytes = [0u8; 20];
-        let mut i = 0;
-        while i < n {
-            bytes[i] = drawn_byte(text[i]);
-            i += 1;
+        for (i, byte) in text[..n].iter().enumerate() {
+            bytes[i] = drawn_byte(*byte);
         }
         Self {
             bytes,
@@ -78,15 +63,10 @@ impl Name {
     pub fn check(self) -> bool
         ensures { result ≡ name_ok self }
     {
-        let bytes = self.bytes;
-        let len = self.len;
-        let mut ok = true;
-        let mut i = 0;
-        while i < 20 {
-            ok = ok & placed_byte(len, i, bytes[i]);
-            i += 1;
-        }
-        ok & (len <= 20)
+        let len = self.len as usize;
+        (self.len <= 20)
+            & self.bytes.iter().take(len).all(|byte| allowed_byte(*byte))
+            & self.bytes.iter().skip(len).all(|byte| *byte == 0)
     }
 
     // The name is the empty one, padding included.

@@ -1,14 +1,14 @@
 -- Lists in which nothing is refused: the machine after them, the time ridden in the test step, and the player's FTP. The list is xs ++ ys,
 -- and what is said is of xs: the whole list, or the calls up to a read.
+use Rattle.std.specs.Prelude.{Result, Some, ⊤}
+use Rattle.refusal.specs.declared.Refusal.{Refusal}
 use mathlib.Core.Path.{◌≡◌, sym, ap, ◌∙◌, refl, subst}
 use mathlib.Core.Bool.{true}
 use mathlib.Core.List.{List, [], ◌∷◌, ◌++◌, append-nil}
 use Prim.Native.Nat.{ℕ, ◌+◌}
-use Rattle.refusal.specs.declared.Answer.{Answer}
 use Rattle.zones.specs.declared.TrainingProfile.{TrainingProfile}
 use Rattle.zones.specs.Zones.{profile_ok}
 use Rattle.model.specs.declared.Workout.{Workout}
-use Rattle.power.specs.declared.ReadingOption.TheVariants.{Some}
 use Rattle.state.specs.declared.Summary.{Summary}
 use Rattle.machine.specs.Machine.{Machine, start, step_at, reading, with_extra, skipped, summary_of}
 use Rattle.machine.specs.Cutting.{Call, read, ride, skip, extend, ReadsFit, own, alone}
@@ -31,15 +31,15 @@ module _ (w : Workout) (p : TrainingProfile) where
   call-is : (c : Call) (s : Progress) → AllAccepted (call_asks w p c (own c) s) → (after c s).machine ≡ on_call w p c s.machine
   unfolding call_asks own after_call
   call-is (read sample) s a =
-      ap (λ (answer : Answer). (unless_refused answer s (reading sample s.machine)).machine) a.0 ∙ (unfold unless_refused in refl)
+      ap (λ (answer : Result ⊤ Refusal). (unless_refused answer s (reading sample s.machine)).machine) a.0 ∙ (unfold unless_refused in refl)
   call-is (ride ms mm kinds values) s a =
       unfold pieces_ask after_pieces in
-      ap (λ (answer : Answer). (after_piece w p answer (record { ms = ms; mm = mm }) s).machine) a.0 ∙ (unfold after_piece in refl)
+      ap (λ (answer : Result ⊤ Refusal). (after_piece w p answer (record { ms = ms; mm = mm }) s).machine) a.0 ∙ (unfold after_piece in refl)
   call-is (skip kinds values) s a =
-      ap (λ (answer : Answer). (unless_refused answer s (skipped w (step_at w s.machine.step.position) s.machine)).machine) a.0
+      ap (λ (answer : Result ⊤ Refusal). (unless_refused answer s (skipped w (step_at w s.machine.step.position) s.machine)).machine) a.0
       ∙ (unfold unless_refused in refl)
   call-is (extend secs metres) s a =
-      ap (λ (answer : Answer). (unless_refused answer s (with_extra (extra_next w secs s) s.machine)).machine) a.0
+      ap (λ (answer : Result ⊤ Refusal). (unless_refused answer s (with_extra (extra_next w secs s) s.machine)).machine) a.0
       ∙ (unfold unless_refused in refl)
 
   -- the first call of a list, and the rest of it

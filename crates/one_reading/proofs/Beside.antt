@@ -1,8 +1,8 @@
 -- Two runs of the machine side by side: their steps and times are the same, and the newest power of the second is higher by some watts
 -- while neither reads. Here calls are those that aren't refused (Accepted.antt).
+use Rattle.std.specs.Prelude.{Option, None, Some}
 use mathlib.Core.Path.{◌≡◌, refl, sym, ap, ap₂, ◌∙◌, subst}
 use mathlib.Core.Bool.{Bool, true, false, cond}
-use mathlib.Core.Option.{Option, none, some}
 use mathlib.Core.List.{List, [], ◌∷◌, ◌++◌}
 use Prim.Native.Nat.{ℕ, zero, suc, ◌+◌, ◌*◌}
 use native.Mathlib.Nat.{mul-zero, zero-mul, add-mul, mul-add}
@@ -95,18 +95,18 @@ module _ (w : Workout) (p : TrainingProfile) where
 
   millisecond-by : (o : Option Step) {d : ℕ} {m n : Machine} → Beside d m n → Beside d (millisecond_in w p o m) (millisecond_in w p o n)
   unfolding millisecond_in
-  millisecond-by none B = B
-  millisecond-by (some s) B = closed-beside s (ridden-beside s B)
+  millisecond-by None B = B
+  millisecond-by (Some s) B = closed-beside s (ridden-beside s B)
 
   skipped-by : (o : Option Step) {d : ℕ} {m n : Machine} → Beside d m n → Beside d (skipped w o m) (skipped w o n)
   unfolding skipped
-  skipped-by none B = B
-  skipped-by (some s) B = ended-beside s true B
+  skipped-by None B = B
+  skipped-by (Some s) B = ended-beside s true B
 
   extended-by : (o : Option ℕ) {d : ℕ} {m n : Machine} → Beside d m n → Beside d (with_extra o m) (with_extra o n)
   unfolding with_extra
-  extended-by none B = B
-  extended-by (some extra) B =
+  extended-by None B = B
+  extended-by (Some extra) B =
       record { step = ap (λ (t : StepTime). record { position = t.position; time = t.time; extra = extra }) B.step; power = B.power }
 
   millisecond-beside : {d : ℕ} {m n : Machine} → Beside d m n → Beside d (millisecond w p m) (millisecond w p n)

@@ -1,4 +1,5 @@
 -- A sum over a time, and one that is e higher: how far a `Twenty` result moves, with both its roundings.
+use Rattle.std.specs.Prelude.{None, Option, Some}
 use mathlib.Core.Path.{◌≡◌, ap}
 use mathlib.Core.Bool.{Bool, true, false, cond, ◌&&◌}
 use mathlib.Core.List.{[]}
@@ -6,8 +7,6 @@ use Prim.Native.Nat.{ℕ, zero, suc, ◌+◌, ◌-◌, ◌*◌, ◌/◌, ◌≤�
 use native.Mathlib.Nat.{add-mul, one-mul, div-lt_iff_lt-mul, div-zero}
 use native.Mathlib.Omega.{arith}
 use lib.Dec.{leb}
-use Rattle.power.specs.declared.ReadingOption.{ReadingOption}
-use Rattle.power.specs.declared.ReadingOption.TheVariants.{None, Some}
 use Rattle.power.specs.Power.{or_zero}
 use Rattle.machine.specs.Machine.{Sums, kept, twenty_watts}
 use Rattle.one_reading.specs.OneReading.{quotient_up}
@@ -15,7 +14,7 @@ use Rattle.one_reading.specs.OneReading.{quotient_up}
 some_is : {f g : ℕ} → Some f ≡ Some g → f ≡ g
 some_is e = ap or_zero e
 
-abbrev is_some : ReadingOption → ℕ
+abbrev is_some : Option ℕ → ℕ
 is_some None = 0
 is_some (Some watts) = 1
 
@@ -30,7 +29,7 @@ kept_by false f g e = none-not e
 abbrev sums_of : ℕ → ℕ → Sums
 sums_of S T = record { sum = S; time = T; rest = 0; seconds = [] }
 
-abbrev pub twenty_of : ℕ → ℕ → ReadingOption
+abbrev pub twenty_of : ℕ → ℕ → Option ℕ
 twenty_of S T = kept (twenty_watts (sums_of S T))
 
 abbrev mean_of : ℕ → ℕ → ℕ

@@ -1,9 +1,9 @@
 -- One run: where a workout's test is `Twenty` and it plays one test step, the machine's FTP is the result of the power summed and the time
 -- ridden in that step over the whole list of calls.
+use Rattle.std.specs.Prelude.{None, Some, Option}
 use mathlib.Core.Path.{◌≡◌, refl, sym, ap, subst}
 use mathlib.Core.Bool.{Bool, true, false, cond}
 use mathlib.Core.Logic.{◌⊎◌, inl, inr, ⊎_elim}
-use mathlib.Core.Option.{Option, none, some}
 use mathlib.Core.List.{List, [], ◌∷◌, map}
 use Prim.Native.Nat.{ℕ, zero, suc, ◌+◌, ◌*◌, ◌≤◌, ◌<◌}
 use native.Mathlib.Nat.{zero-add, add-zero, mul-zero, mul-one}
@@ -18,8 +18,6 @@ use Rattle.model.specs.declared.Test.TheVariants.{Twenty}
 use Rattle.model.specs.declared.Step.{Step}
 use Rattle.model.specs.declared.Workout.{Workout}
 use Rattle.order.specs.Order.{played_len}
-use Rattle.power.specs.declared.ReadingOption.{ReadingOption}
-use Rattle.power.specs.declared.ReadingOption.TheVariants.{None, Some}
 use Rattle.readings.specs.declared.Sample.{Sample}
 use Rattle.machine.specs.Machine.{Sums, Machine, start, step_at, step_after, reading, with_extra, is_test, end_of, twenty, result, result_in, ftp_after, sums_at, ended, skipped, summed, ridden, ends_now, closed, millisecond_in, millisecond, milliseconds}
 use Rattle.machine.specs.Cutting.{Call, read, ride, skip, extend}
@@ -52,11 +50,11 @@ two_in f i (suc n) (suc a) (suc b) h k =
 
 -- What an FTP comes from: a step's result, or the one before.
 
-ftp-from : (r before : ReadingOption) (f : ℕ) → ftp_after r before ≡ Some f → (r ≡ Some f) ⊎ (before ≡ Some f)
+ftp-from : (r before : Option ℕ) (f : ℕ) → ftp_after r before ≡ Some f → (r ≡ Some f) ⊎ (before ≡ Some f)
 ftp-from None before f e = inr e
 ftp-from (Some watts) before f e = inl e
 
-twenty-by : (short : Bool) (r : ReadingOption) (f : ℕ) → cond short None r ≡ Some f → r ≡ Some f
+twenty-by : (short : Bool) (r : Option ℕ) (f : ℕ) → cond short None r ≡ Some f → r ≡ Some f
 twenty-by true r f e = none-not e
 twenty-by false r f e = e
 
@@ -69,8 +67,8 @@ twenty-is Open extra u f e = none-not e
 -- The sums where a step has started.
 sums_at_lem : (o : Option Step) (u : Sums) (S T : ℕ) → (u.sum ≡ S) × (u.time ≡ T) → (S ≡ 0) × (T ≡ 0)
     → ((sums_at o u).sum ≡ S) × ((sums_at o u).time ≡ T)
-sums_at_lem none u S T a b = a
-sums_at_lem (some s) u S T a b = (sym b.0, sym b.1)
+sums_at_lem None u S T a b = a
+sums_at_lem (Some s) u S T a b = (sym b.0, sym b.1)
 
 module _ (w : Workout) (p : TrainingProfile) (H : Held w) (tw : w.test ≡ Twenty) (once : played_tests w ≡ 1) where
   abbrev is_test_at : ℕ → Type 0
@@ -126,11 +124,11 @@ module _ (w : Workout) (p : TrainingProfile) (H : Held w) (tw : w.test ≡ Twent
 
   -- The test step.
 
-  test_at_lem : (s : Step) (m : Machine) → step_at w m.step.position ≡ some s → is_test s.intensity ≡ true → is_test_at m.step.position
+  test_at_lem : (s : Step) (m : Machine) → step_at w m.step.position ≡ Some s → is_test s.intensity ≡ true → is_test_at m.step.position
   unfolding testing
   test_at_lem s m at e = rw (at, e) refl
 
-  test-ridden : (s : Step) {S T : ℕ} {m : Machine} → step_at w m.step.position ≡ some s → is_test s.intensity ≡ true → TestSums S T m
+  test-ridden : (s : Step) {S T : ℕ} {m : Machine} → step_at w m.step.position ≡ Some s → is_test s.intensity ≡ true → TestSums S T m
       → TestSums (S + power_of m) (T + 1) (ridden w p s m)
   unfolding ridden summed
   test-ridden s {S} {T} {m} at e R =
@@ -152,7 +150,7 @@ module _ (w : Workout) (p : TrainingProfile) (H : Held w) (tw : w.test ≡ Twent
       ⊎_elim (λ (x : result_in w s false m ≡ Some f). twenty-is s.length m.step.extra m.sums f (rw (e, tw) at x)) (λ x. absurd (n x))
       (ftp-from (result_in w s false m) m.given.ftp f q)
 
-  test-ended : (s : Step) (marked : Bool) {S T : ℕ} {m : Machine} → step_at w m.step.position ≡ some s → is_test s.intensity ≡ true → TestSums S T m
+  test-ended : (s : Step) (marked : Bool) {S T : ℕ} {m : Machine} → step_at w m.step.position ≡ Some s → is_test s.intensity ≡ true → TestSums S T m
       → TestSums S T (ended w s marked m)
   unfolding ended
   test-ended s marked {S} {T} {m} at e R =
@@ -171,12 +169,12 @@ module _ (w : Workout) (p : TrainingProfile) (H : Held w) (tw : w.test ≡ Twent
 
   -- Any step.
 
-  ended-sums : (s : Step) (test marked : Bool) {S T : ℕ} {m : Machine} → step_at w m.step.position ≡ some s → is_test s.intensity ≡ test → TestSums S T m
+  ended-sums : (s : Step) (test marked : Bool) {S T : ℕ} {m : Machine} → step_at w m.step.position ≡ Some s → is_test s.intensity ≡ test → TestSums S T m
       → TestSums S T (ended w s marked m)
   ended-sums s true marked at e R = test-ended s marked at e R
   ended-sums s false marked at e R = plain-ended s marked e R
 
-  ridden-sums : (s : Step) (test : Bool) {S T : ℕ} {m : Machine} → step_at w m.step.position ≡ some s → is_test s.intensity ≡ test → TestSums S T m
+  ridden-sums : (s : Step) (test : Bool) {S T : ℕ} {m : Machine} → step_at w m.step.position ≡ Some s → is_test s.intensity ≡ test → TestSums S T m
       → TestSums (S + power_of m * cond test 1 0) (T + cond test 1 0) (ridden w p s m)
   ridden-sums s true {S} {T} {m} at e R = sums-to (omega (arith, mul-one (power_of m))) refl (test-ridden s at e R)
   ridden-sums s false {S} {T} {m} at e R = sums-to (omega (arith, mul-zero (power_of m))) (sym (add-zero T)) (plain-ridden s e R)
@@ -189,8 +187,8 @@ module _ (w : Workout) (p : TrainingProfile) (H : Held w) (tw : w.test ≡ Twent
   millisecond-by : (o : Option Step) {S T : ℕ} {m : Machine} → step_at w m.step.position ≡ o → TestSums S T m
       → TestSums (S + power_of m * testing o) (T + testing o) (millisecond_in w p o m)
   unfolding millisecond_in testing closed ridden
-  millisecond-by none {S} {T} {m} at R = sums-to (omega (arith, mul-zero (power_of m))) (sym (add-zero T)) R
-  millisecond-by (some s) {S} {T} {m} at R =
+  millisecond-by None {S} {T} {m} at R = sums-to (omega (arith, mul-zero (power_of m))) (sym (add-zero T)) R
+  millisecond-by (Some s) {S} {T} {m} at R =
       let R' = ridden-sums s (is_test s.intensity) at refl R in
       closed-by s (ends_now s.length m.step.extra (m.step.time + 1)) R' (ended-sums s (is_test s.intensity) false at refl R')
 
@@ -203,13 +201,13 @@ module _ (w : Workout) (p : TrainingProfile) (H : Held w) (tw : w.test ≡ Twent
 
   skipped-sums : (o : Option Step) {S T : ℕ} {m : Machine} → step_at w m.step.position ≡ o → TestSums S T m → TestSums S T (skipped w o m)
   unfolding skipped
-  skipped-sums none at R = R
-  skipped-sums (some s) at R = ended-sums s (is_test s.intensity) true at refl R
+  skipped-sums None at R = R
+  skipped-sums (Some s) at R = ended-sums s (is_test s.intensity) true at refl R
 
   extended-sums : (o : Option ℕ) {S T : ℕ} {m : Machine} → TestSums S T m → TestSums S T (with_extra o m)
   unfolding with_extra
-  extended-sums none R = R
-  extended-sums (some extra) R = record { sums = R.sums; none_yet = R.none_yet; ftp-is = R.ftp-is; ftp-late = R.ftp-late }
+  extended-sums None R = R
+  extended-sums (Some extra) R = record { sums = R.sums; none_yet = R.none_yet; ftp-is = R.ftp-is; ftp-late = R.ftp-late }
 
   read-sums : (sample : Sample) {S T : ℕ} {m : Machine} → TestSums S T m → TestSums S T (reading sample m)
   unfolding reading

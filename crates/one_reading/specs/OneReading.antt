@@ -9,8 +9,7 @@
 --   g is at most f plus the rise in watts times the share of the test step's time for which that reading was the latest, rounded up.
 --
 -- The statement itself, `OneReading`, stands below those definitions; `one_reading::one_reading` proves it.
-use Rattle.std.specs.Prelude.{◌≡◌, Bool, true, false, cond, List, [], ◌∷◌, ◌++◌, map, ℕ, zero, suc, ◌+◌, ◌-◌, ◌*◌, ◌/◌, ◌≤◌, ◌<◌}
-use Rattle.std.proofs.Math.Option.{Option, none, some}
+use Rattle.std.specs.Prelude.{◌≡◌, Bool, true, false, cond, List, [], ◌∷◌, ◌++◌, map, ℕ, zero, suc, ◌+◌, ◌-◌, ◌*◌, ◌/◌, ◌≤◌, ◌<◌, Some, Option, None}
 use Rattle.common.specs.Lists.{sum, range}
 use Rattle.zones.specs.declared.TrainingProfile.{TrainingProfile}
 use Rattle.zones.specs.Zones.{profile_ok}
@@ -18,8 +17,6 @@ use Rattle.model.specs.declared.Test.TheVariants.{Twenty}
 use Rattle.model.specs.declared.Step.{Step}
 use Rattle.model.specs.declared.Workout.{Workout}
 use Rattle.order.specs.Order.{played_len}
-use Rattle.power.specs.declared.ReadingOption.{ReadingOption}
-use Rattle.power.specs.declared.ReadingOption.TheVariants.{Some}
 use Rattle.start.specs.Start.{new_of}
 use Rattle.machine.specs.Machine.{Machine, step_at, is_test, millisecond}
 use Rattle.machine.specs.Cutting.{Call, read, ride, skip, extend, own, alone}
@@ -34,8 +31,8 @@ pub record TwoLists : Type 0 where
   pub before : List Call
   pub watts : ℕ
   pub rise : ℕ
-  pub heart : ReadingOption
-  pub cadence : ReadingOption
+  pub heart : Option ℕ
+  pub cadence : Option ℕ
   pub after : List Call
 
 -- That read, with such a power.
@@ -56,15 +53,15 @@ abbrev pub fresh_run : Workout → TrainingProfile → List Call → Run
 fresh_run w p l = run p l (new_of w).player
 
 -- "an FTP": the player's own, from its test
-abbrev pub ftp_of : Workout → TrainingProfile → List Call → ReadingOption
+abbrev pub ftp_of : Workout → TrainingProfile → List Call → Option ℕ
 ftp_of w p l = (fresh_run w p l).player.core.summary.ftp
 
 -- Time in the test step.
 
 -- A millisecond counts for 1 in a test step, and for 0 in another one and after the finish.
 unfoldable pub testing : Option Step → ℕ
-testing none = 0
-testing (some s) = cond (is_test s.intensity) 1 0
+testing None = 0
+testing (Some s) = cond (is_test s.intensity) 1 0
 
 -- "one played test step": how many of the steps played are test steps
 unfoldable pub played_tests : Workout → ℕ

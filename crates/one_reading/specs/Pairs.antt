@@ -1,12 +1,11 @@
 -- Pairs of lists that `OneReading` speaks of, with the players' FTPs and document 02's t and T in numbers. In each the second FTP is the
 -- first plus the whole bound, so that no smaller bound is true. And a pair that shows why the workout plays one test step only.
-use Rattle.std.specs.Prelude.{◌≡◌, List, [], ◌∷◌, ℕ, ◌+◌, ◌*◌, ◌/◌, ◌<◌}
+use Rattle.std.specs.Prelude.{◌≡◌, List, [], ◌∷◌, ℕ, ◌+◌, ◌*◌, ◌/◌, ◌<◌, None, Some}
 use Rattle.model.specs.declared.Intensity.TheVariants.{Warmup, Cooldown}
 use Rattle.model.specs.declared.Intensity.TheVariants as intensities
 use Rattle.model.specs.declared.Target.TheVariants.{Free}
 use Rattle.model.specs.declared.Test.TheVariants.{Twenty}
 use Rattle.model.specs.declared.Workout.{Workout}
-use Rattle.power.specs.declared.ReadingOption.TheVariants.{None, Some}
 use Rattle.machine.specs.Cutting.{Call, read, ride, skip, extend}
 use Rattle.machine.specs.Samples.{step, workout, pair, profile, watts}
 use Rattle.one_reading.specs.OneReading.{TwoLists, first, second, ftp_of, played_tests, whole_time, latest_time, quotient_up, most_rise, Comparable}

@@ -1,4 +1,5 @@
 -- The playing order of a workout with sound blocks is as long as `played_len` says.
+use Rattle.std.specs.Prelude.{None, Option, Some}
 use mathlib.Core.Path.{◌≡◌, refl, sym, ap, ap₂, ◌∙◌}
 use mathlib.Core.Bool.{Bool, true, false, cond, ◌&&◌, and-false}
 use mathlib.Core.Logic.{⊎_elim}
@@ -14,8 +15,6 @@ use Rattle.common.proofs.Tests.{and_left, and_right}
 use Rattle.model.specs.declared.Block.{Block}
 use Rattle.blocks.specs.Blocks.{end, apart, blocks_sound, extra, repeats}
 use Rattle.blocks.proofs.Laws.{Ok, apart-cases, sound-head, sound-tail, head_apart, repeats-cons}
-use Rattle.order.specs.declared.BlockOption.{BlockOption}
-use Rattle.order.specs.declared.BlockOption.TheVariants as block_option
 use Rattle.order.specs.Order.{holds, block_at, piece, piece_len, order}
 use Rattle.order.proofs.Laws.{length-piece}
 
@@ -59,20 +58,20 @@ apart-misses b c j p q h =
     (apart-cases b c h)
 
 -- so no block of a list that is apart from b does
-apart-free : (b : Block) (bs : List Block) (j : ℕ) → b.first ≤ j → j < end b → all (apart b) bs ≡ true → block_at bs j ≡ block_option.None
+apart-free : (b : Block) (bs : List Block) (j : ℕ) → b.first ≤ j → j < end b → all (apart b) bs ≡ true → block_at bs j ≡ None
 unfolding all block_at
 apart-free b [] j p q h = refl
 apart-free b (c ∷ cs) j p q h =
-    ap (λ (t : Bool). cond t (block_option.Some c) (block_at cs j)) (apart-misses b c j p q (and_left (apart b c) (all (apart b) cs) h))
+    ap (λ (t : Bool). cond t (Some c) (block_at cs j)) (apart-misses b c j p q (and_left (apart b c) (all (apart b) cs) h))
     ∙ apart-free b cs j p q (and_right (apart b c) (all (apart b) cs) h)
 
-count-free : (bs : List Block) (i n : ℕ) → ((j : ℕ) → i ≤ j → j < i + n → block_at bs j ≡ block_option.None) → count bs i n ≡ n
+count-free : (bs : List Block) (i n : ℕ) → ((j : ℕ) → i ≤ j → j < i + n → block_at bs j ≡ None) → count bs i n ≡ n
 unfolding count
 count-free bs i zero h = refl
 count-free bs i (suc n) h =
     omega (
       arith,
-      ap (λ (f : BlockOption). piece_len f i) (h i (omega arith) (omega arith)),
+      ap (λ (f : Option Block). piece_len f i) (h i (omega arith) (omega arith)),
       count-free bs (suc i) n (λ j p q. h j (omega arith) (omega arith)),
     )
 
@@ -91,12 +90,12 @@ count-parts b bs steps h =
 module _ (b : Block) (bs : List Block) where
   miss : (i : ℕ) → holds b i ≡ false → piece_len (block_at (b ∷ bs) i) i ≡ piece_len (block_at bs i) i
   unfolding block_at
-  miss i e = ap (λ (t : Bool). piece_len (cond t (block_option.Some b) (block_at bs i)) i) e
+  miss i e = ap (λ (t : Bool). piece_len (cond t (Some b) (block_at bs i)) i) e
 
   hit : (i : ℕ) → b.first ≤ i → i < end b → piece_len (block_at (b ∷ bs) i) i ≡ cond (eqb b.first i) (b.len * b.count) 0
   unfolding block_at
   hit i p q =
-      ap (λ (t : Bool). piece_len (cond t (block_option.Some b) (block_at bs i)) i)
+      ap (λ (t : Bool). piece_len (cond t (Some b) (block_at bs i)) i)
       (ap₂ (λ (s t : Bool). s && t) (le-leb b.first i p) (lt-ltb i (end b) q))
 
   -- where b holds none of n steps, they count as without it

@@ -1,8 +1,10 @@
 -- The step at a place of the order, and the seconds planned from a position on.
+use Rattle.std.specs.Prelude.{None, Option, Some}
+use Rattle.std.specs.List.{range_with_len}
 use mathlib.Core.Path.{◌≡◌, refl, sym, ap, ◌∙◌}
-use mathlib.Core.Bool.{Bool, true, cond}
+use mathlib.Core.Bool.{Bool, cond}
 use mathlib.Core.List.{List, [], ◌∷◌, map}
-use Prim.Native.Nat.{ℕ, zero, suc, ◌+◌, ◌≤◌, ◌<◌, min}
+use Prim.Native.Nat.{ℕ, zero, suc, ◌+◌, ◌-◌, ◌≤◌, ◌<◌, min}
 use native.Mathlib.Omega.{arith}
 use lib.ListN.{length, get_or, take, drop, length-take}
 use lib.Seq.{get_or-take, take-nil, drop-nil}
@@ -13,13 +15,11 @@ use Rattle.model.specs.declared.Step.{Step}
 use Rattle.model.specs.declared.Workout.{Workout}
 use Rattle.model.specs.Workout.{no_step, steps_of, blocks_of}
 use Rattle.order.specs.declared.Place.{Place}
-use Rattle.order.specs.declared.PlaceOption.{PlaceOption}
-use Rattle.order.specs.declared.PlaceOption.TheVariants as place_option
-use Rattle.order.specs.declared.PlayedOption.{PlayedOption}
+use Rattle.order.specs.declared.Played.{Played}
 use Rattle.order.specs.Order.{nth, order, order_of, planned_from, nothing, step_at, played_by, played_of, played_seconds}
 
-abbrev pub found : Place → Step → PlayedOption
-found p step = record { found = true; played = record { index = p.index; repetition = p.repetition; of = p.of; step = step } }
+abbrev pub found : Place → Step → Option Played
+found p step = Some (record { index = p.index; repetition = p.repetition; of = p.of; step = step })
 
 module _ (steps : List Step) (count : ℕ) (p : Place) where
   pub step-found : (d : Step) → p.index < count → p.index < length steps → found p (get_or steps p.index d) ≡ step_at (take count steps) p
@@ -36,13 +36,13 @@ module _ (steps : List Step) (count : ℕ) (p : Place) where
       (le-ltb p.index (length (take count steps)) (omega (arith, length-take count steps))))
 
 -- what a place adds to a sum over an order, if there is one
-abbrev share : (Place → ℕ) → PlaceOption → ℕ
-share f place_option.None = 0
-share f (place_option.Some p) = f p
+abbrev share : (Place → ℕ) → Option Place → ℕ
+share f None = 0
+share f (Some p) = f p
 
-share-seconds : (steps : List Step) (o : PlaceOption) → played_seconds (played_by steps o) ≡ share (λ p. played_seconds (step_at steps p)) o
-share-seconds steps place_option.None = refl
-share-seconds steps (place_option.Some p) = refl
+share-seconds : (steps : List Step) (o : Option Place) → played_seconds (played_by steps o) ≡ share (λ p. played_seconds (step_at steps p)) o
+share-seconds steps None = refl
+share-seconds steps (Some p) = refl
 
 -- the sum from position k on, one position at a time
 sum_step : (f : Place → ℕ) (l : List Place) (n k : ℕ) → k < n
@@ -66,7 +66,7 @@ unfolding sum
 sum-end f l n k h = ap (λ (xs : List Place). sum (map f xs)) (used-end l n k (omega arith))
 
 -- the look-up in a workout's order, of as many steps as it has
-pub played-lookup : (w : Workout) (n position : ℕ) (o : PlaceOption) → length w.steps ≡ 12 → n ≡ min w.step_count 12
+pub played-lookup : (w : Workout) (n position : ℕ) (o : Option Place) → length w.steps ≡ 12 → n ≡ min w.step_count 12
     → o ≡ nth (order n (blocks_of w)) position → played_by (steps_of w) o ≡ played_of w position
 unfolding played_of
 played-lookup w n position o long e f =
@@ -85,3 +85,9 @@ module _ (w : Workout) (at : ℕ) where
   pub planned-end : 96 ≤ at → planned_from w at ≡ 0
   unfolding planned_from
   planned-end h = sum-end (λ p. played_seconds (step_at (steps_of w) p)) (order_of w) 96 at h
+
+-- the seconds of the positions from one on up to 96, added up
+pub planned-list : (w : Workout) (n at : ℕ) → n ≡ 96 - at → sum (map (λ k. played_seconds (played_of w k)) (range_with_len at n)) ≡ planned_from w at
+unfolding sum
+planned-list w zero at e = sym (planned-end w at (omega arith))
+planned-list w (suc n) at e = omega (arith, planned-list w n (at + 1) (omega arith), planned-step w at (omega arith))

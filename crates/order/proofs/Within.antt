@@ -1,4 +1,5 @@
 -- In the playing order of sound blocks every place is one of the steps, so a step is played at each position below the order's length.
+use Rattle.std.specs.Prelude.{Some, is_some}
 use mathlib.Core.Path.{◌≡◌, refl, sym, ap, ◌∙◌}
 use mathlib.Core.Bool.{Bool, true, false, cond}
 use mathlib.Core.List.{List, [], ◌∷◌, map, flat_map}
@@ -16,7 +17,6 @@ use Rattle.model.specs.declared.Workout.{Workout}
 use Rattle.model.specs.Workout.{no_step, steps_of, blocks_of}
 use Rattle.blocks.specs.Blocks.{end, block_ok, blocks_sound}
 use Rattle.blocks.proofs.Laws.{block-ok, sound-ok}
-use Rattle.order.specs.declared.BlockOption.TheVariants as block_option
 use Rattle.order.specs.declared.Place.{Place}
 use Rattle.order.specs.Order.{place, run, runs, holds, block_at, piece, order, order_of, nth, nothing, step_at, played_by, played_of, played_len, PlayingOrder}
 use Rattle.order.proofs.Count.{order_length}
@@ -50,7 +50,7 @@ module _ (steps : ℕ) where
   within-piece [] i e h = and_both (lt-ltb i steps h) refl
   within-piece (b ∷ bs) i e h = go (holds b i) (within-piece bs i (and_right (block_ok steps b) (all (block_ok steps) bs) e) h)
     where
-      go : (t : Bool) → all within (piece (block_at bs i) i) ≡ true → all within (piece (cond t (block_option.Some b) (block_at bs i)) i) ≡ true
+      go : (t : Bool) → all within (piece (block_at bs i) i) ≡ true → all within (piece (cond t (Some b) (block_at bs i)) i) ≡ true
       go true rest = within_block b (eqb b.first i) (block-ok steps b (and_left (block_ok steps b) (all (block_ok steps) bs) e)).within
       go false rest = rest
 
@@ -62,16 +62,16 @@ module _ (steps : ℕ) where
       all_append within (piece (block_at bs i) i) (flat_map (λ index. piece (block_at bs index) index) (range (suc i) n))
       ∙ and_both (within-piece bs i e (omega arith)) (within-from bs (suc i) n e (omega arith))
 
-step-flag : (steps : List Step) (p : Place) → (step_at steps p).found ≡ within (length steps) p
+step-flag : (steps : List Step) (p : Place) → is_some (step_at steps p) ≡ within (length steps) p
 unfolding step_at
 step-flag steps p = go (within (length steps) p)
   where
-    go : (t : Bool) → (cond t (found p (get_or steps p.index no_step)) nothing).found ≡ t
+    go : (t : Bool) → is_some (cond t (found p (get_or steps p.index no_step)) nothing) ≡ t
     go true = refl
     go false = refl
 
 -- where every place of a list is one of the steps, a step is found at each position below its length, and at no other
-found_below : (steps : List Step) (l : List Place) (k : ℕ) → all (within (length steps)) l ≡ true → (played_by steps (nth l k)).found ≡ ltb k (length l)
+found_below : (steps : List Step) (l : List Place) (k : ℕ) → all (within (length steps)) l ≡ true → is_some (played_by steps (nth l k)) ≡ ltb k (length l)
 unfolding all nth
 found_below steps [] k h = sym (le-ltb k 0 (omega arith))
 found_below steps (p ∷ l) zero h =

@@ -2,18 +2,10 @@
 #![tactic(auto)]
 
 ghost use Rattle.std.specs.Prelude.{◌≡◌, ◌≤◌, ◌<◌, take};
-ghost use Rattle.order.specs.Order.{holds, block_at, piece_len, place_in, order, nth, step_at, played_of, seconds, played_seconds, planned_from, timed, timed_at, all_timed, has_untimed, played_len, PlayingOrder};
+ghost use Rattle.order.specs.Order.{holds, block_at, piece_len, place_in, order, nth, step_at, played_of, seconds, played_seconds, planned_from, timed, all_timed, has_untimed, played_len, PlayingOrder};
 
 use blocks::repeats_of;
-use common::least;
 use model::{Block, Length, MAX_PLAYED, NO_STEP, Step, Workout};
-
-// The block that holds a step, if one does.
-#[derive(Clone, Copy, Drop)]
-pub enum BlockOption {
-    None,
-    Some(Block),
-}
 
 // A place in the playing order: which step, in which run of its block, of how many.
 #[derive(Clone, Copy, Drop)]
@@ -21,12 +13,6 @@ pub struct Place {
     pub index: usize,
     pub repetition: u8,
     pub of: u8,
-}
-
-#[derive(Clone, Copy, Drop)]
-pub enum PlaceOption {
-    None,
-    Some(Place),
 }
 
 // One step as it is played: which step, and which run of its block.
@@ -40,14 +26,7 @@ pub struct Played {
     pub step: Step,
 }
 
-// A played step, or NO_PLAYED where there is none.
-#[derive(Clone, Copy, Drop)]
-pub struct PlayedOption {
-    pub found: bool,
-    pub played: Played,
-}
-
-// What stands beside a flag that says there is no played step.
+// What is taken where there is no played step.
 pub const NO_PLAYED: Played = Played {
     index: 0,
     repetition: 0,
@@ -59,8 +38,7 @@ pub const NO_PLAYED: Played = Played {
 pub fn played_len(workout: Workout) -> usize
     ensures { result ≡ played_len workout }
 {
-    let blocks = workout.blocks;
-    least(workout.step_count as usize, 12) + repeats_of(blocks, workout.block_count)
+    (workout.step_count as usize).min(12) + repeats_of(workout.blocks, workout.block_count)
 }
 
 fn holds_step(block: Block, index: usize) -> bool
@@ -71,28 +49,23 @@ fn holds_step(block: Block, index: usize) -> bool
 }
 
 // The first of the first `count` blocks that holds the step at `index`.
-fn block_at(blocks: [Block; 8], count: u8, index: usize) -> BlockOption
+fn block_at(blocks: [Block; 8], count: u8, index: usize) -> Option<Block>
     ensures { result ≡ block_at (take count blocks) index }
 {
-    let n = least(count as usize, 8);
-    let mut i = 0;
-    while i < n {
-        let block = blocks[i];
-        if holds_step(block, index) {
-            return BlockOption::Some(block);
-        }
-        i += 1;
-    }
-    BlockOption::None
+    blocks
+        .iter()
+        .take(count as usize)
+        .copied()
+        .find(|block| holds_step(*block, index))
 }
 
 // How many places of the order come at the step at `index`, `found` being its block.
-fn piece_len(found: BlockOption, index: usize) -> usize
+fn piece_len(found: Option<Block>, index: usize) -> usize
     ensures { result ≡ piece_len found index }
 {
     match found {
-        BlockOption::None => 1,
-        BlockOption::Some(block) => {
+        None => 1,
+        Some(block) => {
             if (block.first as usize) == index {
                 (block.len as usize) * (block.count as usize)
             } else {
@@ -103,17 +76,17 @@ fn piece_len(found: BlockOption, index: usize) -> usize
 }
 
 // The place that comes after `before` others at the step at `index`.
-fn place_in(found: BlockOption, index: usize, before: usize) -> Place
+fn place_in(found: Option<Block>, index: usize, before: usize) -> Place
     requires { before < piece_len found index }
     ensures { result ≡ place_in found index before }
 {
     match found {
-        BlockOption::None => Place {
+        None => Place {
             index,
             repetition: 0,
             of: 1,
         },
-        BlockOption::Some(block) => {
+        Some(block) => {
             let len = block.len as usize;
             let run = before / len;
             Place {
@@ -126,66 +99,46 @@ fn place_in(found: BlockOption, index: usize, before: usize) -> Place
 }
 
 // The place at `position` of the playing order of `steps` steps, if it has one.
-fn place_at(blocks: [Block; 8], count: u8, steps: usize, position: usize) -> PlaceOption
+fn place_at(blocks: [Block; 8], count: u8, steps: usize, position: usize) -> Option<Place>
     ensures { result ≡ nth (order steps (take count blocks)) position }
 {
     let mut before = position;
-    let mut i = 0;
-    while i < steps {
+    for i in 0..steps {
         let found = block_at(blocks, count, i);
         let size = piece_len(found, i);
         if before < size {
-            return PlaceOption::Some(place_in(found, i, before));
+            return Some(place_in(found, i, before));
         }
         before -= size;
-        i += 1;
     }
-    PlaceOption::None
+    None
 }
 
 // The step at a place, if the place is one of the first `count` steps.
-fn step_at(steps: [Step; 12], count: u8, place: Place) -> PlayedOption
+fn step_at(steps: [Step; 12], count: u8, place: Place) -> Option<Played>
     ensures { result ≡ step_at (take count steps) place }
 {
     let index = place.index;
-    let n = least(count as usize, 12);
-    if index < n {
+    if index < (count as usize).min(12) {
         let step = steps[index];
-        return PlayedOption {
-            found: true,
-            played: Played {
-                index: index as u8,
-                repetition: place.repetition,
-                of: place.of,
-                step,
-            },
-        };
+        return Some(Played {
+            index: index as u8,
+            repetition: place.repetition,
+            of: place.of,
+            step,
+        });
     }
-    PlayedOption {
-        found: false,
-        played: NO_PLAYED,
-    }
+    None
 }
 
 // The step played at `position`, if there is one.
-pub fn played_at(workout: Workout, position: usize) -> PlayedOption
+pub fn played_at(workout: Workout, position: usize) -> Option<Played>
     ensures { result ≡ played_of workout position }
 {
-    let steps = workout.steps;
-    let blocks = workout.blocks;
     let count = workout.step_count;
-    match place_at(
-        blocks,
-        workout.block_count,
-        least(count as usize, 12),
-        position,
-    ) {
-        PlaceOption::None => PlayedOption {
-            found: false,
-            played: NO_PLAYED,
-        },
-        PlaceOption::Some(place) => step_at(steps, count, place),
-    }
+    let steps = (count as usize).min(12);
+    let place = place_at(workout.blocks, workout.block_count, steps, position)?;
+    step_at(workout.steps, count, place)
 }
 
 // Seconds of a timed step; distance and open steps count nothing.
@@ -199,16 +152,12 @@ fn seconds_of(length: Length) -> u32
     }
 }
 
-fn played_seconds(played: PlayedOption) -> u32
+fn played_seconds(played: Option<Played>) -> u32
     ensures { (result ≡ played_seconds played) × (result ≤ 65535) }
 {
-    if played.found {
-        let one = played.played;
-        let step = one.step;
-        let length = step.length;
-        seconds_of(length)
-    } else {
-        0
+    match played {
+        None => 0,
+        Some(one) => seconds_of(one.step.length),
     }
 }
 
@@ -216,13 +165,9 @@ fn played_seconds(played: PlayedOption) -> u32
 pub fn planned_from(workout: Workout, position: usize) -> u32
     ensures { (result ≡ planned_from workout position) × (result ≤ 6291360) }
 {
-    let mut total = 0;
-    let mut at = position;
-    while at < MAX_PLAYED {
-        total += played_seconds(played_at(workout, at));
-        at += 1;
-    }
-    total
+    (position..MAX_PLAYED)
+        .map(|at| played_seconds(played_at(workout, at)))
+        .sum()
 }
 
 // Planned recorded seconds of the timed steps, repeats included; distance and open steps count nothing.
@@ -235,43 +180,23 @@ pub fn planned_secs(workout: Workout) -> u32
 fn is_timed(length: Length) -> bool
     ensures { result ≡ timed length }
 {
-    match length {
-        Length::Time(_) => true,
-        Length::Distance(_) => false,
-        Length::Open => false,
-    }
-}
-
-// The step at a place is timed, or its place is not used.
-fn timed_at(count: u8, at: usize, step: Step) -> bool
-    ensures { result ≡ timed_at count at step }
-{
-    if at < (count as usize) {
-        let length = step.length;
-        is_timed(length)
-    } else {
-        true
-    }
+    matches!(length, Length::Time(_))
 }
 
 fn all_timed(steps: [Step; 12], count: u8) -> bool
     ensures { result ≡ all_timed (take count steps) }
 {
-    let mut ok = true;
-    let mut i = 0;
-    while i < 12 {
-        ok = ok & timed_at(count, i, steps[i]);
-        i += 1;
-    }
-    ok
+    steps
+        .iter()
+        .take(count as usize)
+        .all(|step| is_timed(step.length))
 }
 
 // Some step ends only when the rider says so or by distance.
 pub fn has_untimed_steps(workout: Workout) -> bool
     ensures { result ≡ has_untimed workout }
 {
-    let steps = workout.steps;
-    !all_timed(steps, workout.step_count)
+    !all_timed(workout.steps, workout.step_count)
 }
 
 // Of a workout with sound blocks the playing order is as long as `played_len` says, and each of its places has a step.

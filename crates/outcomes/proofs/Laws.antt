@@ -1,4 +1,6 @@
 -- A call's answer, held to what it gives; and question 15 by what is left to its limit.
+use Rattle.std.specs.Prelude.{Result, ⊤}
+use Rattle.refusal.specs.declared.Refusal.{Refusal}
 use mathlib.Core.Path.{◌≡◌, refl, sym, subst}
 use mathlib.Core.Bool.{true, false}
 use mathlib.Core.List.{List}
@@ -6,14 +8,13 @@ use Prim.Native.Nat.{ℕ, ◌+◌, ◌-◌, ◌≤◌, ◌<◌}
 use native.Mathlib.Omega.{arith}
 use lib.Dec.{leb}
 use borrow.Author.Tests.{le-leb, lt-leb}
-use Rattle.refusal.specs.declared.Answer.{Answer}
 use Rattle.events.proofs.Laws.{wrote_none}
 use Rattle.state.specs.declared.Player.{Player}
 use Rattle.outcomes.specs.declared.Update.{Update}
 use Rattle.outcomes.specs.Outcomes.{Called, Answers, eventless_update, eventless}
 
 -- a call without events
-pub eventless-answers : (ks vs : List ℕ) (p : Player) (u : Update) (o : Called) (a : Answer) → u ≡ eventless_update a p → eventless a p ≡ o → Answers ks vs ks vs u o
+pub eventless-answers : (ks vs : List ℕ) (p : Player) (u : Update) (o : Called) (a : Result ⊤ Refusal) → u ≡ eventless_update a p → eventless a p ≡ o → Answers ks vs ks vs u o
 eventless-answers ks vs p u o a e f =
     subst (λ (o : Called). Answers ks vs ks vs u o) f
     (subst (λ (u : Update). Answers ks vs ks vs u (eventless a p)) (sym e) (record { answer = refl; player = refl; parts = refl; wrote = wrote_none ks vs 0 }))

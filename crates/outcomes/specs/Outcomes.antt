@@ -1,8 +1,7 @@
 -- What document 01's player calls give, and the extending of a step once only question 15 is left to be asked.
-use Rattle.std.specs.Prelude.{◌≡◌, true, false, cond, List, [], ℕ, ◌+◌, ◌≤◌, leb, get_or}
-use Rattle.refusal.specs.declared.Answer.{Answer}
-use Rattle.refusal.specs.declared.Answer.TheVariants.{Accepted, Refused}
+use Rattle.std.specs.Prelude.{◌≡◌, true, false, cond, List, [], ℕ, ◌+◌, ◌≤◌, leb, get_or, Err, Ok, Result, ⊤}
 use Rattle.refusal.specs.declared.Refusal.TheVariants as refusals
+use Rattle.refusal.specs.declared.Refusal.{Refusal}
 use Rattle.model.specs.declared.Length.{Length}
 use Rattle.model.specs.declared.Length.TheVariants.{Time, Distance, Open}
 use Rattle.model.specs.declared.Workout.{Workout}
@@ -19,7 +18,7 @@ use Rattle.outcomes.specs.declared.ExtendedCore.{ExtendedCore}
 
 -- What a call gives, its events as a list.
 pub record Called : Type 0 where
-  pub answer : Answer
+  pub answer : Result ⊤ Refusal
   pub player : Player
   pub events : List Event
   pub parts : ℕ
@@ -32,10 +31,10 @@ pub record Answers (ks vs ks' vs' : List ℕ) (r : Update) (o : Called) : Type 0
   pub wrote : Wrote ks vs 0 ks' vs' r.events o.events
 
 -- Without events or parts.
-abbrev pub eventless_update : Answer → Player → Update
+abbrev pub eventless_update : Result ⊤ Refusal → Player → Update
 eventless_update answer p = record { answer = answer; player = p; events = 0; parts = 0 }
 
-abbrev pub eventless : Answer → Player → Called
+abbrev pub eventless : Result ⊤ Refusal → Player → Called
 eventless answer p = record { answer = answer; player = p; events = []; parts = 0 }
 
 -- The player of a core and its minute. The note is that of the step on now.
@@ -61,7 +60,7 @@ totalled ms mm c =
       done = c.done;
     }
 
-abbrev pub not_extended : Answer → Player → Extended
+abbrev pub not_extended : Result ⊤ Refusal → Player → Extended
 not_extended answer p = record { answer = answer; player = p; extended = false }
 
 abbrev pub with_lap : Lap → Core → Core
@@ -79,20 +78,20 @@ with_lap lap c =
       done = c.done;
     }
 
-abbrev pub not_longer : Answer → Core → ExtendedCore
+abbrev pub not_longer : Result ⊤ Refusal → Core → ExtendedCore
 not_longer answer c = record { answer = answer; core = c; extended = false }
 
 abbrev pub longer_core : ℕ → ℕ → Core → ExtendedCore
-longer_core secs metres c = record { answer = Accepted; core = with_lap (extended_lap secs metres c.lap) c; extended = true }
+longer_core secs metres c = record { answer = (Ok tt); core = with_lap (extended_lap secs metres c.lap) c; extended = true }
 
 -- "Extend of an unfinished timed or distance step: its extra at most 86,400 s or 1,000,000 m after it? 15. Open .. gives `false`, no
 -- refusal." The amount is the call's, and only that of the step's own unit counts.
 unfoldable pub extend_core : ℕ → ℕ → Length → Core → ExtendedCore
 extend_core secs metres (Time time) c =
-    cond (leb (c.lap.extra_s + secs) 86400) (longer_core secs 0 c) (not_longer (Refused refusals.Extra) c)
+    cond (leb (c.lap.extra_s + secs) 86400) (longer_core secs 0 c) (not_longer (Err refusals.Extra) c)
 extend_core secs metres (Distance way) c =
-    cond (leb (c.lap.extra_m + metres) 1000000) (longer_core 0 metres c) (not_longer (Refused refusals.Extra) c)
-extend_core secs metres Open c = not_longer Accepted c
+    cond (leb (c.lap.extra_m + metres) 1000000) (longer_core 0 metres c) (not_longer (Err refusals.Extra) c)
+extend_core secs metres Open c = not_longer (Ok tt) c
 
 abbrev pub extended_by : Player → ExtendedCore → Extended
 extended_by p r = record { answer = r.answer; player = with_core r.core p; extended = r.extended }

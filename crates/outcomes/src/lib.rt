@@ -9,22 +9,23 @@ ghost use Rattle.outcomes.specs.Outcomes.{eventless_update, player_of, totalled,
 
 use model::{Length, Step, Workout};
 use names::Name;
-use refusal::{Answer, Refusal};
+use refusal::Refusal;
 use state::{Core, Mm, Ms, Player};
 
-// What a call gives: its answer, the player after it, the number of its events in the lent arrays, and the rounds that rode.
+// What a call gives: its answer, the player after it, the number of its events in the lent arrays, and the rounds that rode. A struct
+// and no `Result`: a refused call gives the player as it was (`eventless_update`).
 #[derive(Clone, Copy, Drop)]
 pub struct Update {
-    pub answer: Answer,
+    pub answer: Result<(), Refusal>,
     pub player: Player,
     pub events: usize,
     pub parts: usize,
 }
 
-// What `extend` gives; `extended` is player.rs's own yes or no.
+// What `extend` gives; `extended` is player.rs's own yes or no, and refused the player is as it was (`not_extended`).
 #[derive(Clone, Copy, Drop)]
 pub struct Extended {
-    pub answer: Answer,
+    pub answer: Result<(), Refusal>,
     pub player: Player,
     pub extended: bool,
 }
@@ -32,13 +33,13 @@ pub struct Extended {
 // The same of a core.
 #[derive(Clone, Copy, Drop)]
 pub struct ExtendedCore {
-    pub answer: Answer,
+    pub answer: Result<(), Refusal>,
     pub core: Core,
     pub extended: bool,
 }
 
 // A call without events or parts.
-pub fn plain(player: Player, answer: Answer) -> Update
+pub fn plain(player: Player, answer: Result<(), Refusal>) -> Update
     ensures { result ≡ eventless_update answer player }
 {
     Update {
@@ -96,7 +97,7 @@ pub fn add_totals(core: Core, ms: Ms, mm: Mm) -> Core
     q
 }
 
-pub fn not_extended(player: Player, answer: Answer) -> Extended
+pub fn not_extended(player: Player, answer: Result<(), Refusal>) -> Extended
     ensures { result ≡ not_extended answer player }
 {
     Extended {
@@ -106,7 +107,7 @@ pub fn not_extended(player: Player, answer: Answer) -> Extended
     }
 }
 
-fn core_as_before(core: Core, answer: Answer) -> ExtendedCore
+fn core_as_before(core: Core, answer: Result<(), Refusal>) -> ExtendedCore
     ensures { result ≡ not_longer answer core }
 {
     ExtendedCore {
@@ -126,7 +127,7 @@ fn longer(core: Core, secs: u32, metres: u32) -> ExtendedCore
     let mut c = core;
     c.lap = more;
     ExtendedCore {
-        answer: Answer::Accepted,
+        answer: Ok(()),
         core: c,
         extended: true,
     }
@@ -146,15 +147,15 @@ pub fn extend_core(core: Core, secs: u32, metres: u32) -> ExtendedCore
             if secs <= 86400 - lap.extra_s {
                 return longer(core, secs, 0);
             }
-            core_as_before(core, Answer::Refused(Refusal::Extra))
+            core_as_before(core, Err(Refusal::Extra))
         }
         Length::Distance(_) => {
             if metres <= 1000000 - lap.extra_m {
                 return longer(core, 0, metres);
             }
-            core_as_before(core, Answer::Refused(Refusal::Extra))
+            core_as_before(core, Err(Refusal::Extra))
         }
-        Length::Open => core_as_before(core, Answer::Accepted),
+        Length::Open => core_as_before(core, Ok(())),
     }
 }
 

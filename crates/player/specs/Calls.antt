@@ -1,9 +1,8 @@
 -- Document 01's player calls: their questions in order, and what each gives.
-use Rattle.std.specs.Prelude.{Bool, cond, ◌&&◌, ℕ, ◌+◌, leb}
-use Rattle.refusal.specs.declared.Answer.{Answer}
-use Rattle.refusal.specs.declared.Answer.TheVariants.{Accepted, Refused}
+use Rattle.std.specs.Prelude.{Bool, cond, ◌&&◌, ℕ, ◌+◌, leb, Err, Ok, Result, ⊤}
 use Rattle.refusal.specs.declared.Refusal.TheVariants as refusals
 use Rattle.refusal.specs.Number.{ask}
+use Rattle.refusal.specs.declared.Refusal.{Refusal}
 use Rattle.zones.specs.declared.TrainingProfile.{TrainingProfile}
 use Rattle.zones.specs.Zones.{profile_ok}
 use Rattle.readings.specs.declared.Sample.{Sample}
@@ -16,10 +15,10 @@ use Rattle.outcomes.specs.declared.Extended.{Extended}
 use Rattle.outcomes.specs.Outcomes.{Called, eventless, eventless_update, with_core, not_extended, extend_by}
 use Rattle.updates.specs.Updates.{ride_now, add_now, skip_now}
 
--- Refused, a call leaves the player, with 0 events and 0 parts.
-abbrev pub answered : Answer → Player → Called → Called
-answered Accepted p o = o
-answered (Refused refusal) p o = eventless (Refused refusal) p
+-- Err, a call leaves the player, with 0 events and 0 parts.
+abbrev pub answered : Result ⊤ Refusal → Player → Called → Called
+answered (Ok tt) p o = o
+answered (Err refusal) p o = eventless (Err refusal) p
 
 -- The questions of an update.
 
@@ -31,13 +30,13 @@ totals_with c ms mm = leb (c.total_ms.0 + ms) 604800000 && leb (c.total_mm.0 + m
 abbrev pub places_ok : Core → ℕ → ℕ → Bool
 places_ok c kinds values = leb (event_places c) kinds && leb (event_places c) values
 
-unfoldable pub update_answer : Core → ℕ → ℕ → ℕ → ℕ → Answer
+unfoldable pub update_answer : Core → ℕ → ℕ → ℕ → ℕ → Result ⊤ Refusal
 update_answer c ms mm kinds values =
-    ask (update_ok ms mm) refusals.Update (ask (totals_with c ms mm) refusals.Totals (ask (places_ok c kinds values) refusals.EventPlaces Accepted))
+    ask (update_ok ms mm) refusals.Update (ask (totals_with c ms mm) refusals.Totals (ask (places_ok c kinds values) refusals.EventPlaces (Ok tt)))
 
 -- Ride.
 
-unfoldable pub ride_answer : Player → ℕ → ℕ → TrainingProfile → ℕ → ℕ → Answer
+unfoldable pub ride_answer : Player → ℕ → ℕ → TrainingProfile → ℕ → ℕ → Result ⊤ Refusal
 ride_answer p ms mm f kinds values =
     ask (standing_of p) refusals.Standing (ask (profile_ok f) refusals.Profile (update_answer p.core ms mm kinds values))
 
@@ -47,19 +46,19 @@ ride_of p ms mm f kinds values = answered (ride_answer p ms mm f kinds values) p
 
 -- Read.
 
-unfoldable pub read_answer : Player → Sample → Answer
-read_answer p sample = ask (standing_of p) refusals.Standing (ask (cadence_in sample.cadence_tenths) refusals.Cadence Accepted)
+unfoldable pub read_answer : Player → Sample → Result ⊤ Refusal
+read_answer p sample = ask (standing_of p) refusals.Standing (ask (cadence_in sample.cadence_tenths) refusals.Cadence (Ok tt))
 
-abbrev pub read_by : Answer → Player → Sample → Update
-read_by Accepted p sample = eventless_update Accepted (with_core (read_core sample p.core) p)
-read_by (Refused refusal) p sample = eventless_update (Refused refusal) p
+abbrev pub read_by : Result ⊤ Refusal → Player → Sample → Update
+read_by (Ok tt) p sample = eventless_update (Ok tt) (with_core (read_core sample p.core) p)
+read_by (Err refusal) p sample = eventless_update (Err refusal) p
 
 unfoldable pub read_of : Player → Sample → Update
 read_of p sample = read_by (read_answer p sample) p sample
 
 -- Add: read, then ride, with the questions of both first.
 
-unfoldable pub add_answer : Player → ℕ → ℕ → Sample → TrainingProfile → ℕ → ℕ → Answer
+unfoldable pub add_answer : Player → ℕ → ℕ → Sample → TrainingProfile → ℕ → ℕ → Result ⊤ Refusal
 add_answer p ms mm sample f kinds values =
     ask (standing_of p) refusals.Standing (ask (profile_ok f) refusals.Profile (ask (cadence_in sample.cadence_tenths) refusals.Cadence (update_answer p.core ms mm kinds values)))
 
@@ -68,8 +67,8 @@ add_of p ms mm sample f kinds values = answered (add_answer p ms mm sample f kin
 
 -- Skip.
 
-unfoldable pub skip_answer : Player → ℕ → ℕ → Answer
-skip_answer p kinds values = ask (standing_of p) refusals.Standing (ask (places_ok p.core kinds values) refusals.EventPlaces Accepted)
+unfoldable pub skip_answer : Player → ℕ → ℕ → Result ⊤ Refusal
+skip_answer p kinds values = ask (standing_of p) refusals.Standing (ask (places_ok p.core kinds values) refusals.EventPlaces (Ok tt))
 
 unfoldable pub skip_of : Player → ℕ → ℕ → Called
 skip_of p kinds values = answered (skip_answer p kinds values) p (skip_now p)
@@ -78,11 +77,11 @@ skip_of p kinds values = answered (skip_answer p kinds values) p (skip_now p)
 
 -- "Open or finished gives `false`", whatever the amount.
 abbrev pub extend_now : ℕ → ℕ → Bool → Player → Extended
-extend_now secs metres done p = cond done (not_extended Accepted p) (extend_by secs metres p.core.on.length p)
+extend_now secs metres done p = cond done (not_extended (Ok tt) p) (extend_by secs metres p.core.on.length p)
 
 -- "a call with the amount" (document 02, i): 20, then 15 of the step's own unit
 unfoldable pub extend_with : ℕ → ℕ → Player → Extended
-extend_with secs metres p = cond (standing_of p) (extend_now secs metres p.core.done p) (not_extended (Refused refusals.Standing) p)
+extend_with secs metres p = cond (standing_of p) (extend_now secs metres p.core.done p) (not_extended (Err refusals.Standing) p)
 
 -- "The plain extend call now gives 30 s or 250 m." (document 02, i; it was 60 s or 500 m)
 abbrev pub default_s : ℕ

@@ -9,7 +9,7 @@ ghost use Rattle.player.specs.Calls.{places_ok, update_answer, ride_of, read_of,
 
 use outcomes::{Extended, Update, extend_by, not_extended, plain, with_core};
 use readings::Sample;
-use refusal::{Answer, Refusal};
+use refusal::Refusal;
 use standing::{cadence_in, is_standing};
 use state::{Core, Mm, Ms, Player};
 use updates::{add_now, ride_now, skip_now};
@@ -24,10 +24,7 @@ pub const EXTEND_M: u32 = 250;
 fn is_sound(profile: TrainingProfile) -> bool
     ensures { result ≡ profile_ok profile }
 {
-    match profile.check() {
-        Answer::Accepted => true,
-        Answer::Refused(_) => false,
-    }
+    profile.check().is_ok()
 }
 
 // Question 14.
@@ -40,26 +37,26 @@ fn places_ok(core: Core, kinds: usize, values: usize) -> bool
 }
 
 // Questions 12 to 14, of a core whose totals and steps are within their limits.
-pub fn update_answer(core: Core, ms: Ms, mm: Mm, kinds: usize, values: usize) -> Answer
+pub fn update_answer(core: Core, ms: Ms, mm: Mm, kinds: usize, values: usize) -> Result<(), Refusal>
     requires { (core.total_ms.0 ≤ 604800000) × (core.total_mm.0 ≤ 7000000000) × (core.steps ≤ 96) }
     ensures { result ≡ update_answer core ms.0 mm.0 kinds values }
 {
     if 86400000 < ms.0 {
-        return Answer::Refused(Refusal::Update);
+        return Err(Refusal::Update);
     }
     if 1000000000 < mm.0 {
-        return Answer::Refused(Refusal::Update);
+        return Err(Refusal::Update);
     }
     if 604800000 < core.total_ms.0 + ms.0 {
-        return Answer::Refused(Refusal::Totals);
+        return Err(Refusal::Totals);
     }
     if 7000000000 < core.total_mm.0 + mm.0 {
-        return Answer::Refused(Refusal::Totals);
+        return Err(Refusal::Totals);
     }
     if !places_ok(core, kinds, values) {
-        return Answer::Refused(Refusal::EventPlaces);
+        return Err(Refusal::EventPlaces);
     }
-    Answer::Accepted
+    Ok(())
 }
 
 // Account `ms` of recorded riding over `mm` under the last reading. Riding past a step's end counts in the steps after it.
@@ -75,14 +72,14 @@ pub fn ride(
 {
     let core = player.core;
     if !is_standing(player) {
-        return plain(player, Answer::Refused(Refusal::Standing));
+        return plain(player, Err(Refusal::Standing));
     }
     if !is_sound(profile) {
-        return plain(player, Answer::Refused(Refusal::Profile));
+        return plain(player, Err(Refusal::Profile));
     }
     match update_answer(core, ms, mm, kinds.len(), values.len()) {
-        Answer::Accepted => ride_now(player, ms, mm, profile, kinds, values),
-        Answer::Refused(refusal) => plain(player, Answer::Refused(refusal)),
+        Ok(()) => ride_now(player, ms, mm, profile, kinds, values),
+        Err(refusal) => plain(player, Err(refusal)),
     }
 }
 
@@ -93,12 +90,12 @@ pub fn read(player: Player, sample: Sample) -> Update
     let core = player.core;
     let cadence = sample.cadence_tenths;
     if !is_standing(player) {
-        return plain(player, Answer::Refused(Refusal::Standing));
+        return plain(player, Err(Refusal::Standing));
     }
     if !cadence_in(cadence) {
-        return plain(player, Answer::Refused(Refusal::Cadence));
+        return plain(player, Err(Refusal::Cadence));
     }
-    plain(with_core(player, core.read(sample)), Answer::Accepted)
+    plain(with_core(player, core.read(sample)), Ok(()))
 }
 
 // Account `ms` of recorded riding over `mm` with `sample`'s readings.
@@ -116,17 +113,17 @@ pub fn add(
     let core = player.core;
     let cadence = sample.cadence_tenths;
     if !is_standing(player) {
-        return plain(player, Answer::Refused(Refusal::Standing));
+        return plain(player, Err(Refusal::Standing));
     }
     if !is_sound(profile) {
-        return plain(player, Answer::Refused(Refusal::Profile));
+        return plain(player, Err(Refusal::Profile));
     }
     if !cadence_in(cadence) {
-        return plain(player, Answer::Refused(Refusal::Cadence));
+        return plain(player, Err(Refusal::Cadence));
     }
     match update_answer(core, ms, mm, kinds.len(), values.len()) {
-        Answer::Accepted => add_now(player, ms, mm, sample, profile, kinds, values),
-        Answer::Refused(refusal) => plain(player, Answer::Refused(refusal)),
+        Ok(()) => add_now(player, ms, mm, sample, profile, kinds, values),
+        Err(refusal) => plain(player, Err(refusal)),
     }
 }
 
@@ -136,10 +133,10 @@ pub fn skip(player: Player, kinds: &mut [u8], values: &mut [u16]) -> Update
 {
     let core = player.core;
     if !is_standing(player) {
-        return plain(player, Answer::Refused(Refusal::Standing));
+        return plain(player, Err(Refusal::Standing));
     }
     if !places_ok(core, kinds.len(), values.len()) {
-        return plain(player, Answer::Refused(Refusal::EventPlaces));
+        return plain(player, Err(Refusal::EventPlaces));
     }
     skip_now(player, kinds, values)
 }
@@ -150,10 +147,10 @@ pub fn extend_with(player: Player, secs: u32, metres: u32) -> Extended
 {
     let core = player.core;
     if !is_standing(player) {
-        return not_extended(player, Answer::Refused(Refusal::Standing));
+        return not_extended(player, Err(Refusal::Standing));
     }
     if core.done {
-        return not_extended(player, Answer::Accepted);
+        return not_extended(player, Ok(()));
     }
     extend_by(player, secs, metres)
 }

@@ -2,14 +2,7 @@
 #![tactic(auto)]
 
 ghost use Rattle.std.specs.Prelude.{◌≡◌, cond, ◌*◌, ◌≤◌};
-ghost use Rattle.power.specs.Power.{or_zero, is_some, reading_at, one_present, mean_by, average_of, added};
-
-// A reading, or a number made of readings, if there is one.
-#[derive(Clone, Copy, Drop)]
-pub enum ReadingOption {
-    None,
-    Some(u16),
-}
+ghost use Rattle.power.specs.Power.{one_present, mean_by, average_of, added};
 
 // The last three power readings; `next` is the place of the oldest. An absent reading is `false` with 0 watts.
 #[derive(Clone, Copy, Drop)]
@@ -17,38 +10,6 @@ pub struct Power3s {
     pub watts: [u16; 3],
     pub present: [bool; 3],
     pub next: u8,
-}
-
-impl ReadingOption {
-    // The reading, or 0.
-    pub fn or_zero(self) -> u16
-        ensures { result ≡ or_zero self }
-    {
-        match self {
-            ReadingOption::None => 0,
-            ReadingOption::Some(value) => value,
-        }
-    }
-
-    pub fn is_some(self) -> bool
-        ensures { result ≡ is_some self }
-    {
-        match self {
-            ReadingOption::None => false,
-            ReadingOption::Some(_) => true,
-        }
-    }
-}
-
-// A reading where its flag says that it is present.
-pub fn reading_at(present: bool, value: u16) -> ReadingOption
-    ensures { result ≡ reading_at present value }
-{
-    if present {
-        ReadingOption::Some(value)
-    } else {
-        ReadingOption::None
-    }
 }
 
 // The watts of one place, 0 where its reading is absent.
@@ -65,30 +26,30 @@ fn one_if(present: bool) -> u8
 }
 
 // The mean of `count` readings, rounded half up: by cases, so that each division is by a constant.
-fn mean(total: u32, count: u8) -> ReadingOption
+fn mean(total: u32, count: u8) -> Option<u16>
     requires { (total ≤ 65535 * count) × (count ≤ 3) }
     ensures { result ≡ mean_by total count }
 {
     if count == 3 {
-        return ReadingOption::Some(((total + 1) / 3) as u16);
+        return Some(((total + 1) / 3) as u16);
     }
     if count == 2 {
-        return ReadingOption::Some(((total + 1) / 2) as u16);
+        return Some(((total + 1) / 2) as u16);
     }
     if count == 1 {
-        return ReadingOption::Some(total as u16);
+        return Some(total as u16);
     }
-    ReadingOption::None
+    None
 }
 
 impl Power3s {
     // One reading more, in the place of the oldest. A place past the last is taken modulo 3.
-    pub fn add(self, watts: ReadingOption) -> Power3s
+    pub fn add(self, watts: Option<u16>) -> Power3s
         ensures { result ≡ added watts self }
     {
         let mut q = self;
         let at = (q.next % 3) as usize;
-        let value = watts.or_zero();
+        let value = watts.unwrap_or(0);
         let present = watts.is_some();
         q.watts[at] = value;
         q.present[at] = present;
@@ -97,7 +58,7 @@ impl Power3s {
     }
 
     // The mean of the readings in the window, none without any.
-    pub fn watts(self) -> ReadingOption
+    pub fn watts(self) -> Option<u16>
         ensures { result ≡ average_of self }
     {
         let watts = self.watts;
@@ -111,14 +72,14 @@ impl Power3s {
 }
 
 // One reading more for the average that is lent.
-pub fn add_reading(power: &mut Power3s, watts: ReadingOption)
+pub fn add_reading(power: &mut Power3s, watts: Option<u16>)
     ensures { power.new ≡ added watts power.old }
 {
     *power = (*power).add(watts);
 }
 
 // The owner lends its average for one reading. By value, so that callers prove nothing about lending.
-pub fn with_reading(power: Power3s, watts: ReadingOption) -> Power3s
+pub fn with_reading(power: Power3s, watts: Option<u16>) -> Power3s
     ensures { result ≡ added watts power }
 {
     let mut own = power;

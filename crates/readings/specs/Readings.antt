@@ -1,16 +1,12 @@
 -- player.rs: the readings, the one that a metric is checked by, and where it sits against a band.
-use Rattle.std.specs.Prelude.{Bool, false, cond, ℕ, ◌+◌, ◌/◌, ◌%◌, ltb, eqb, replicate}
+use Rattle.std.specs.Prelude.{Bool, false, cond, ℕ, ◌+◌, ◌/◌, ◌%◌, ltb, eqb, replicate, None, Option, Some}
 use Rattle.zones.specs.declared.TrainingProfile.{TrainingProfile}
 use Rattle.zones.specs.Zones.{clamped, heart_zone}
 use Rattle.model.specs.declared.Metric.{Metric}
 use Rattle.model.specs.declared.Metric.TheVariants as metrics
 use Rattle.model.specs.declared.Band.{Band}
-use Rattle.model.specs.declared.BandOption.{BandOption}
-use Rattle.model.specs.declared.BandOption.TheVariants as bands
 use Rattle.model.specs.declared.Target.{Target}
 use Rattle.model.specs.declared.Target.TheVariants.{Free, Ftp, Watts, HeartZone, Lthr, Cadence, Ramp, FtpRamp}
-use Rattle.power.specs.declared.ReadingOption.{ReadingOption}
-use Rattle.power.specs.declared.ReadingOption.TheVariants.{None, Some}
 use Rattle.power.specs.Power.{average_of, added}
 use Rattle.readings.specs.declared.Sample.{Sample}
 use Rattle.readings.specs.declared.Readings.{Readings}
@@ -43,12 +39,12 @@ taken sample r = record { last_sample = sample; power = added sample.power_watts
 -- The reading that a metric is checked by.
 
 -- Tenths of a turn per minute as whole turns, rounded half up.
-abbrev pub per_minute : ReadingOption → ReadingOption
+abbrev pub per_minute : Option ℕ → Option ℕ
 per_minute None = None
 per_minute (Some tenths) = Some ((tenths + 5) / 10)
 
 -- "for power the three-reading average, else the newest reading's"
-unfoldable pub reading_of : Metric → Readings → ReadingOption
+unfoldable pub reading_of : Metric → Readings → Option ℕ
 reading_of metrics.Power r = average_of r.power
 reading_of metrics.Heart r = r.last_sample.heart_bpm
 reading_of metrics.Cadence r = per_minute r.last_sample.cadence_tenths
@@ -75,11 +71,11 @@ compared (FtpRamp start step every) band p value = by_band band value
 abbrev pub compliance_by : Compared → Compliance
 compliance_by c = against c.low c.high c.value
 
-unfoldable pub judged : Target → Band → TrainingProfile → ReadingOption → ComplianceOption
+unfoldable pub judged : Target → Band → TrainingProfile → Option ℕ → ComplianceOption
 judged target band p None = how.NoReading
 judged target band p (Some value) = how.Some (compliance_by (compared target band p value))
 
 -- Where the reading sits against the band, if there are both.
-unfoldable pub compliance_of : Target → BandOption → TrainingProfile → Readings → ComplianceOption
-compliance_of target bands.None p r = how.NoBand
-compliance_of target (bands.Some band) p r = judged target band p (reading_of band.metric r)
+unfoldable pub compliance_of : Target → Option Band → TrainingProfile → Readings → ComplianceOption
+compliance_of target None p r = how.NoBand
+compliance_of target (Some band) p r = judged target band p (reading_of band.metric r)

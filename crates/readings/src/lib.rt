@@ -2,20 +2,19 @@
 #![tactic(auto)]
 
 ghost use Rattle.std.specs.Prelude.{◌≡◌, ◌≤◌};
-ghost use Rattle.zones.specs.Zones.{clamped};
 ghost use Rattle.readings.specs.Readings.{flag_set, per_minute, reading_of, against, compared, judged, compliance_of, taken, no_readings};
 
-use model::{Band, BandOption, Metric, Target};
-use power::{Power3s, ReadingOption, with_reading};
+use model::{Band, Metric, Target};
+use power::{Power3s, with_reading};
 use zones::TrainingProfile;
 
 // The three readings of log.rs's `Sample` that the player uses.
 #[derive(Clone, Copy, Drop)]
 pub struct Sample {
-    pub power_watts: ReadingOption,
-    pub heart_bpm: ReadingOption,
+    pub power_watts: Option<u16>,
+    pub heart_bpm: Option<u16>,
     // Tenths of a turn per minute.
-    pub cadence_tenths: ReadingOption,
+    pub cadence_tenths: Option<u16>,
 }
 
 // What the rider's sensors say: the last sample, and the average that power is checked as.
@@ -33,7 +32,8 @@ pub enum Compliance {
     Over,
 }
 
-// A compliance, or why there is none: the target has no band, or the band's reading is absent.
+// A compliance, or why there is none: the target has no band, or the band's reading is absent. Three cases and no `Option`: `tally`
+// counts the second as unread time.
 #[derive(Clone, Copy, Drop)]
 pub enum ComplianceOption {
     NoBand,
@@ -44,9 +44,9 @@ pub enum ComplianceOption {
 // Before the first sample.
 pub const NO_READINGS: Readings = Readings {
     last_sample: Sample {
-        power_watts: ReadingOption::None,
-        heart_bpm: ReadingOption::None,
-        cadence_tenths: ReadingOption::None,
+        power_watts: None,
+        heart_bpm: None,
+        cadence_tenths: None,
     },
     power: Power3s {
         watts: [0; 3],
@@ -70,43 +70,33 @@ pub fn is_set(flags: u16, value: u16) -> bool
 }
 
 // Whole turns per minute of a cadence in tenths, rounded half up.
-fn per_minute(cadence: ReadingOption) -> ReadingOption
+fn per_minute(cadence: Option<u16>) -> Option<u16>
     ensures { result ≡ per_minute cadence }
 {
-    match cadence {
-        ReadingOption::None => ReadingOption::None,
-        ReadingOption::Some(tenths) => ReadingOption::Some((((tenths as u32) + 5) / 10) as u16),
-    }
+    cadence.map(|tenths| (((tenths as u32) + 5) / 10) as u16)
 }
 
 impl Readings {
     // player.rs's `read`: the sample's power joins the average, and the sample is the last one.
+    #[tactic(auto, unfolding(crate::specs::Readings::taken))]
     pub fn read(self, sample: Sample) -> Readings
         ensures { result ≡ taken sample self }
     {
-        let power = self.power;
-        let watts = sample.power_watts;
         Readings {
             last_sample: sample,
-            power: with_reading(power, watts),
+            power: with_reading(self.power, sample.power_watts),
         }
     }
 
     // The reading a metric is checked by.
-    pub fn reading(self, metric: Metric) -> ReadingOption
+    #[tactic(auto, unfolding(crate::specs::Readings::reading_of))]
+    pub fn reading(self, metric: Metric) -> Option<u16>
         ensures { result ≡ reading_of metric self }
     {
-        let sample = self.last_sample;
         match metric {
-            Metric::Power => {
-                let power = self.power;
-                power.watts()
-            }
-            Metric::Heart => sample.heart_bpm,
-            Metric::Cadence => {
-                let cadence = sample.cadence_tenths;
-                per_minute(cadence)
-            }
+            Metric::Power => self.power.watts(),
+            Metric::Heart => self.last_sample.heart_bpm,
+            Metric::Cadence => per_minute(self.last_sample.cadence_tenths),
         }
     }
 }
@@ -131,16 +121,6 @@ fn against_range(c: Compared) -> Compliance
     Compliance::In
 }
 
-// The zone's number, moved into 1 to 5.
-fn zone_of(zone: u8) -> u16
-    ensures { result ≡ clamped zone 5 }
-{
-    if zone < 1 {
-        return 1;
-    }
-    if zone < 5 { zone as u16 } else { 5 }
-}
-
 // What is compared: the reading with the band, but for a heart zone the reading's zone with the target's.
 fn to_compare(target: Target, band: Band, profile: TrainingProfile, reading: u16) -> Compared
     ensures { result ≡ compared target band profile reading }
@@ -151,43 +131,30 @@ fn to_compare(target: Target, band: Band, profile: TrainingProfile, reading: u16
         value: reading,
     };
     match target {
-        Target::Free => by_band,
-        Target::Ftp { low: _, high: _ } => by_band,
-        Target::Watts { low: _, high: _ } => by_band,
         Target::HeartZone(zone) => {
-            let at = zone_of(zone);
+            let at = zone.clamp(1, 5) as u16;
             Compared {
                 low: at,
                 high: at,
                 value: profile.heart_zone(reading) as u16,
             }
         }
-        Target::Lthr { low: _, high: _ } => by_band,
-        Target::Cadence { low: _, high: _ } => by_band,
-        Target::Ramp {
-            start: _,
-            step: _,
-            every: _,
-        } => by_band,
-        Target::FtpRamp {
-            start: _,
-            step: _,
-            every: _,
-        } => by_band,
+        _ => by_band,
     }
 }
 
+#[tactic(auto, unfolding(crate::specs::Readings::judged))]
 fn judge(
     target: Target,
     band: Band,
     profile: TrainingProfile,
-    reading: ReadingOption,
+    reading: Option<u16>,
 ) -> ComplianceOption
     ensures { result ≡ judged target band profile reading }
 {
     match reading {
-        ReadingOption::None => ComplianceOption::NoReading,
-        ReadingOption::Some(value) => {
+        None => ComplianceOption::NoReading,
+        Some(value) => {
             ComplianceOption::Some(against_range(to_compare(target, band, profile, value)))
         }
     }
@@ -195,20 +162,18 @@ fn judge(
 
 impl Readings {
     // A heart zone target holds the whole zone, open ends included; other targets hold their band.
+    #[tactic(auto, unfolding(crate::specs::Readings::compliance_of))]
     pub fn compliance(
         self,
         target: Target,
-        band: BandOption,
+        band: Option<Band>,
         profile: TrainingProfile,
     ) -> ComplianceOption
         ensures { result ≡ compliance_of target band profile self }
     {
         match band {
-            BandOption::None => ComplianceOption::NoBand,
-            BandOption::Some(found) => {
-                let metric = found.metric;
-                judge(target, found, profile, self.reading(metric))
-            }
+            None => ComplianceOption::NoBand,
+            Some(found) => judge(target, found, profile, self.reading(found.metric)),
         }
     }
 }

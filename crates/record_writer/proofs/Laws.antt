@@ -1,4 +1,5 @@
 -- The runs of a record's bytes, one written behind the other, and the writer's answers.
+use Rattle.std.specs.Prelude.{Err, Ok, Result, ⊤}
 use mathlib.Core.Path.{◌≡◌, refl, sym, ap, ap₂, ◌∙◌}
 use mathlib.Core.Bool.{Bool, true, false}
 use mathlib.Core.List.{List, ◌++◌, append_assoc}
@@ -11,10 +12,9 @@ use borrow.Author.Tests.{le-leb, lt-leb}
 use Rattle.le.specs.Le.{bytes_of, written}
 use Rattle.le.proofs.Laws.{more, take-written}
 use Rattle.checksum.specs.V42.{check_of}
-use Rattle.refusal.specs.declared.Answer.{Answer}
-use Rattle.refusal.specs.declared.Answer.TheVariants.{Accepted, Refused}
 use Rattle.refusal.specs.declared.Refusal.TheVariants as refusals
 use Rattle.refusal.specs.Number.{ask}
+use Rattle.refusal.specs.declared.Refusal.{Refusal}
 use Rattle.names.specs.declared.Name.{Name}
 use Rattle.names.specs.Names.{as_bytes, name_ok}
 use Rattle.codec.specs.Typed.{NameFits}
@@ -108,21 +108,21 @@ record-written r d c e f g =
 -- the writer's answers
 module _ (r : Record) (out : List ℕ) where
   by-questions : (a b : Bool) → name_ok r.name ≡ a → leb record_size (length out) ≡ b
-      → write_answer r (length out) ≡ ask a refusals.Field (ask b refusals.Output Accepted)
+      → write_answer r (length out) ≡ ask a refusals.Field (ask b refusals.Output (Ok tt))
   unfolding write_answer
-  by-questions a b e f = ap₂ (λ (x y : Bool). ask x refusals.Field (ask y refusals.Output Accepted)) e f
+  by-questions a b e f = ap₂ (λ (x y : Bool). ask x refusals.Field (ask y refusals.Output (Ok tt))) e f
 
-  answered : (x : Answer) → write_answer r (length out) ≡ x → (next : List ℕ) → next ≡ output_by x r out
+  answered : (x : Result ⊤ Refusal) → write_answer r (length out) ≡ x → (next : List ℕ) → next ≡ output_by x r out
       → (x ≡ write_answer r (length out)) × (next ≡ output_of r out)
   unfolding output_of
-  answered x e next f = (sym e, f ∙ sym (ap (λ (y : Answer). output_by y r out) e))
+  answered x e next f = (sym e, f ∙ sym (ap (λ (y : Result ⊤ Refusal). output_by y r out) e))
 
-  pub refused-name : name_ok r.name ≡ false → (Refused refusals.Field ≡ write_answer r (length out)) × (out ≡ output_of r out)
-  refused-name e = answered (Refused refusals.Field) (by-questions false (leb record_size (length out)) e refl) out refl
+  pub refused-name : name_ok r.name ≡ false → (Err refusals.Field ≡ write_answer r (length out)) × (out ≡ output_of r out)
+  refused-name e = answered (Err refusals.Field) (by-questions false (leb record_size (length out)) e refl) out refl
 
-  pub no_room : name_ok r.name ≡ true → length out < record_size → (Refused refusals.Output ≡ write_answer r (length out)) × (out ≡ output_of r out)
-  no_room e h = answered (Refused refusals.Output) (by-questions true false e (lt-leb record_size (length out) h)) out refl
+  pub no_room : name_ok r.name ≡ true → length out < record_size → (Err refusals.Output ≡ write_answer r (length out)) × (out ≡ output_of r out)
+  no_room e h = answered (Err refusals.Output) (by-questions true false e (lt-leb record_size (length out) h)) out refl
 
   pub written-whole : (next : List ℕ) → name_ok r.name ≡ true → record_size ≤ length out → next ≡ written out 0 (record_bytes r)
-      → (Accepted ≡ write_answer r (length out)) × (next ≡ output_of r out)
-  written-whole next e h f = answered Accepted (by-questions true true e (le-leb record_size (length out) h)) next f
+      → ((Ok tt) ≡ write_answer r (length out)) × (next ≡ output_of r out)
+  written-whole next e h f = answered (Ok tt) (by-questions true true e (le-leb record_size (length out) h)) next f

@@ -1,11 +1,10 @@
 -- history.rs, `encode` into lent bytes. Document 01: "The record writer asks 5 of its name, then 19. Output bytes past those written
 -- stay."
-use Rattle.std.specs.Prelude.{List, [], ◌∷◌, ◌++◌, ℕ, leb, length}
+use Rattle.std.specs.Prelude.{List, [], ◌∷◌, ◌++◌, ℕ, leb, length, Err, Ok, Result, ⊤}
 use Rattle.le.specs.Le.{bytes_of, written}
-use Rattle.refusal.specs.declared.Answer.{Answer}
-use Rattle.refusal.specs.declared.Answer.TheVariants.{Accepted, Refused}
 use Rattle.refusal.specs.declared.Refusal.TheVariants as refusals
 use Rattle.refusal.specs.Number.{ask}
+use Rattle.refusal.specs.declared.Refusal.{Refusal}
 use Rattle.names.specs.Names.{name_ok}
 use Rattle.model.specs.declared.Test.{Test}
 use Rattle.encode.specs.Encode.{test_kind}
@@ -15,13 +14,13 @@ use Rattle.history.specs.declared.Record.{Record}
 use Rattle.history.specs.Record.{magic, version, body_size, record_size, flags_of, start_ms, millis, record_bytes}
 
 -- "Output long enough (70 for a record)? 19."; document 02, g: "question 19 asks 74 bytes for a record"
-unfoldable pub write_answer : Record → ℕ → Answer
-write_answer r room = ask (name_ok r.name) refusals.Field (ask (leb record_size room) refusals.Output Accepted)
+unfoldable pub write_answer : Record → ℕ → Result ⊤ Refusal
+write_answer r room = ask (name_ok r.name) refusals.Field (ask (leb record_size room) refusals.Output (Ok tt))
 
 -- "A refusal leaves .. output bytes unaltered"
-abbrev pub output_by : Answer → Record → List ℕ → List ℕ
-output_by Accepted r out = written out 0 (record_bytes r)
-output_by (Refused refusal) r out = out
+abbrev pub output_by : Result ⊤ Refusal → Record → List ℕ → List ℕ
+output_by (Ok tt) r out = written out 0 (record_bytes r)
+output_by (Err refusal) r out = out
 
 unfoldable pub output_of : Record → List ℕ → List ℕ
 output_of r out = output_by (write_answer r (length out)) r out

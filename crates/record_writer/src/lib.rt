@@ -4,34 +4,16 @@
 ghost use Rattle.std.specs.Prelude.{◌≡◌, true, ◌≤◌, length};
 ghost use Rattle.le.specs.Le.{written};
 ghost use Rattle.names.specs.Names.{name_ok};
-ghost use Rattle.history.specs.Record.{record_size, is_dated, start_ms, flag, flags_of, millis, body_bytes, record_bytes};
+ghost use Rattle.history.specs.Record.{record_size, flag, flags_of, millis, body_bytes, record_bytes};
 ghost use Rattle.record_writer.specs.Write.{first_bytes, ride_bytes, count_bytes, time_bytes, write_answer, output_of};
 
-use history::{BODY_V2, Record, StartOption, VERSION_2};
+use history::{BODY_V2, Record, VERSION_2};
 use model::Test;
-use refusal::{Answer, Refusal};
+use refusal::Refusal;
 use state::Summary;
 
 // The bytes of a record: its body and the check word.
 pub const RECORD_BYTES: usize = 74;
-
-fn is_dated(start: StartOption) -> bool
-    ensures { result ≡ is_dated start }
-{
-    match start {
-        StartOption::None => false,
-        StartOption::Some(_) => true,
-    }
-}
-
-fn start_ms(start: StartOption) -> u64
-    ensures { result ≡ start_ms start }
-{
-    match start {
-        StartOption::None => 0,
-        StartOption::Some(ms) => ms,
-    }
-}
 
 // A flag's value where it is set.
 fn flag_of(on: bool, value: u8) -> u8
@@ -47,7 +29,7 @@ fn flags_of(stored: Record) -> u8
     let start = stored.started_utc_ms;
     let ftp = summary.ftp;
     let finished = flag_of(summary.finished, 1);
-    let dated = flag_of(is_dated(start), 2);
+    let dated = flag_of(start.is_some(), 2);
     let measured = flag_of(ftp.is_some(), 4);
     finished + (dated + measured)
 }
@@ -82,7 +64,7 @@ fn put_ride(out: &mut [u8], stored: Record)
 {
     let flags = flags_of(stored);
     let started = stored.started_utc_ms;
-    let start = start_ms(started);
+    let start = started.unwrap_or(0);
     let name = stored.name;
     le::put_u8(out, 6, stored.journal);
     le::put_u8(out, 7, flags);
@@ -109,7 +91,7 @@ fn put_times(out: &mut [u8], summary: Summary)
     ensures { out.new ≡ written out.old 48 (time_bytes summary) }
 {
     let ftp = summary.ftp;
-    let watts = ftp.or_zero();
+    let watts = ftp.unwrap_or(0);
     le::put_u32(out, 48, millis_of(summary.targeted_ms));
     le::put_u32(out, 52, millis_of(summary.in_ms));
     le::put_u32(out, 56, millis_of(summary.under_ms));
@@ -144,17 +126,17 @@ fn put_record(out: &mut [u8], stored: Record)
 }
 
 // Asks 5 of the name, then 19, and writes exactly the record; refused, it leaves all bytes.
-pub fn encode(stored: Record, out: &mut [u8]) -> Answer
+pub fn encode(stored: Record, out: &mut [u8]) -> Result<(), Refusal>
     ensures value { result ≡ write_answer stored (length out.old) }
     ensures out_after { out.new ≡ output_of stored out.old }
 {
     let name = stored.name;
     if !name.check() {
-        return Answer::Refused(Refusal::Field);
+        return Err(Refusal::Field);
     }
     if out.len() < RECORD_BYTES {
-        return Answer::Refused(Refusal::Output);
+        return Err(Refusal::Output);
     }
     put_record(out, stored);
-    Answer::Accepted
+    Ok(())
 }

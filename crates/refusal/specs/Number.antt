@@ -1,12 +1,10 @@
 -- Document 01, 'The questions, in order', and document 02's requests: the number of each question.
-use Rattle.std.specs.Prelude.{◌≡◌, Bool, true, false, ℕ}
+use Rattle.std.specs.Prelude.{◌≡◌, Bool, true, false, ℕ, Err, Ok, Result, ⊤}
 use Rattle.refusal.specs.declared.Invalid.{Invalid}
 use Rattle.refusal.specs.declared.Invalid.TheVariants.{NoSteps, Block, Step, TooLong}
 use Rattle.refusal.specs.declared.Refusal.{Refusal}
 use Rattle.refusal.specs.declared.Refusal.TheVariants.{Length, Magic, Version, Checksum, Field, Profile, Cadence, Update, Totals, EventPlaces, Extra, SheetLength, Act, Record, Output, Standing, BikeNumber}
 use Rattle.refusal.specs.declared.Refusal.TheVariants as cases
-use Rattle.refusal.specs.declared.Answer.{Answer}
-use Rattle.refusal.specs.declared.Answer.TheVariants.{Accepted, Refused}
 
 -- "Then `validate`: a step? 6. Blocks sound? 7. Steps sound? 8. At most 96 played? 9."
 abbrev pub invalid_number : Invalid → ℕ
@@ -54,16 +52,16 @@ question_number Standing = 20
 question_number BikeNumber = 29
 
 -- Questions in order: the first that fails decides.
-abbrev pub ask : Bool → Refusal → Answer → Answer
+abbrev pub ask : Bool → Refusal → Result ⊤ Refusal → Result ⊤ Refusal
 ask true refusal rest = rest
-ask false refusal rest = Refused refusal
+ask false refusal rest = Err refusal
 
 -- 0 where nothing is refused: no question has that number
-abbrev pub answer_number : Answer → ℕ
-answer_number Accepted = 0
-answer_number (Refused refusal) = question_number refusal
+abbrev pub answer_number : Result ⊤ Refusal → ℕ
+answer_number (Ok tt) = 0
+answer_number (Err refusal) = question_number refusal
 
 -- Each question has a number of its own: an answer's case says the same as its number.
 pub record NumbersApart : Type 0 where
   pub refusals : (a b : Refusal) → question_number a ≡ question_number b → a ≡ b
-  pub answers : (a b : Answer) → answer_number a ≡ answer_number b → a ≡ b
+  pub answers : (a b : Result ⊤ Refusal) → answer_number a ≡ answer_number b → a ≡ b

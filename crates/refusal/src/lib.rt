@@ -1,5 +1,6 @@
 // The questions of document 01, 'The questions, in order', and of document 02's requests as refusals: one case for each question
-// that can fail, with its number. `Invalid` is model.rs's; the others that codec.rs names keep their names.
+// that can fail, with its number. What asks answers a `Result` with `Refusal` as its error. `Invalid` is model.rs's; the others that
+// codec.rs names keep their names.
 #![tactic(auto)]
 
 ghost use Rattle.std.specs.Prelude.{◌≡◌};
@@ -76,22 +77,13 @@ impl Refusal {
     }
 }
 
-// What asking gives: accepted, or the first question that failed.
-#[derive(Clone, Copy, Drop)]
-pub enum Answer {
-    Accepted,
-    Refused(Refusal),
-}
-
-impl Answer {
-    // 0, or the number of the question.
-    pub fn number(self) -> u32
-        ensures { result ≡ answer_number self }
-    {
-        match self {
-            Answer::Accepted => 0,
-            Answer::Refused(refusal) => refusal.number(),
-        }
+// The number of an answer: 0 where nothing is refused, else that of the question that failed first.
+pub fn answer_number(answer: Result<(), Refusal>) -> u32
+    ensures { result ≡ answer_number answer }
+{
+    match answer {
+        Ok(()) => 0,
+        Err(refusal) => refusal.number(),
     }
 }
 

@@ -1,4 +1,5 @@
 -- The arms of `play`: what each kind of act leaves for the acts after it.
+use Rattle.std.specs.Prelude.{Err, Ok, Some}
 use mathlib.Core.Path.{◌≡◌, refl, sym, ap, ap₂, subst, ◌∙◌}
 use mathlib.Core.Bool.{Bool, true, false, cond, not, ◌&&◌}
 use mathlib.Core.List.{List, []}
@@ -8,7 +9,6 @@ use lib.Dec.{ltb}
 use lib.ListN.{length, get_or}
 use borrow.Author.Tests.{ltb-true, ltb-false, not-true}
 use Rattle.common.proofs.Tests.{and_left, and_right}
-use Rattle.refusal.specs.declared.Answer.TheVariants.{Accepted, Refused}
 use Rattle.refusal.specs.declared.Refusal.{Refusal}
 use Rattle.refusal.specs.declared.Refusal.TheVariants as refusals
 use Rattle.zones.specs.declared.TrainingProfile.{TrainingProfile}
@@ -33,7 +33,6 @@ use Rattle.keeps.specs.Keeps.{PowerFits}
 use Rattle.sheet.specs.declared.Act.{Act}
 use Rattle.sheet.specs.declared.Act.TheVariants.{Read, Extend}
 use Rattle.sheet.specs.declared.Act.TheVariants as acts
-use Rattle.sheet.specs.declared.ActOption.TheVariants.{Some}
 use Rattle.sheet.specs.Sheet.{word4, kind_in, place_of, sample_at, acts_at, act_in, acts_from, refused_at}
 use Rattle.replay.specs.declared.Acted.{Acted}
 use Rattle.replay.specs.declared.Ridden.{Ridden as Replayed}
@@ -83,13 +82,13 @@ module _ (w : Workout) (p : TrainingProfile) (s : List ℕ) (n : ℕ) (c₀ : Co
   all = play_acts w p (acts_from s n 1 (n - 1)) 1 (player_of w (riding c₀ m₀))
 
   next-by : (act : Act) {m' ks vs ks' vs' : List ℕ} (r : Acted) → act_in s n i ≡ act → length m' ≡ 60 → Acts w m' ks vs ks' vs' r (act_called p act P)
-      → r.answer ≡ Accepted → At w p s n c₀ m₀ r.core m' (i + 1)
+      → r.answer ≡ Ok tt → At w p s n c₀ m₀ r.core m' (i + 1)
   next-by act {m'} {ks} {vs} {ks'} {vs'} r e sixty a accepted =
       let o = played w p (act_in s n i) act c m m' ks vs ks' vs' r at.ready power sixty e a in
       at_next w p s n c₀ m₀ c m i at (act_in s n i) r h refl o.0 o.1 accepted
 
   refused-by : (act : Act) {m' ks vs ks' vs' : List ℕ} (r : Acted) (refusal : Refusal) → act_in s n i ≡ act
-      → Acts w m' ks vs ks' vs' r (act_called p act P) → r.answer ≡ Refused refusal → nothing_ridden (refused_at refusal (Some i)) ≡ all
+      → Acts w m' ks vs ks' vs' r (act_called p act P) → r.answer ≡ Err refusal → nothing_ridden (refused_at refusal (Some i)) ≡ all
   refused-by act r refusal e a refused = at-refused w p s n c₀ m₀ c m i at act r refusal h (sym e) a refused
 
   -- A reading.
@@ -99,22 +98,22 @@ module _ (w : Workout) (p : TrainingProfile) (s : List ℕ) (n : ℕ) (c₀ : Co
     read-in = ap (λ (k : ℕ). get_or (acts_at s (place_of n i)) k Extend) kind ∙ ap (λ (x : Sample). Read x) (sym e)
 
     reads : (b : Bool) → cadence_in sample.cadence_tenths ≡ b
-        → Acts w m [] [] [] [] (cond b (eventless_act Accepted (read_core sample c)) (eventless_act (Refused refusals.Cadence) c)) (act_called p (Read sample) P)
+        → Acts w m [] [] [] [] (cond b (eventless_act (Ok tt) (read_core sample c)) (eventless_act (Err refusals.Cadence) c)) (act_called p (Read sample) P)
     unfolding act_called
     reads b t =
         read-acts w c m [] [] p at.ready.stands sample _
-        (sym (ap (λ (b : Bool). cond {A = Acted} b (eventless_act Accepted (read_core sample c)) (eventless_act (Refused refusals.Cadence) c)) t))
+        (sym (ap (λ (b : Bool). cond {A = Acted} b (eventless_act (Ok tt) (read_core sample c)) (eventless_act (Err refusals.Cadence) c)) t))
 
     pub read_next : (k : Core) → k ≡ read_core sample c → cadence_in sample.cadence_tenths ≡ true → At w p s n c₀ m₀ k m (i + 1)
     read_next k f t =
         subst (λ (k : Core). At w p s n c₀ m₀ k m (i + 1)) (sym f)
-        (next-by (Read sample) (eventless_act Accepted (read_core sample c)) read-in at.ready.sixty (reads true t) refl)
+        (next-by (Read sample) (eventless_act (Ok tt) (read_core sample c)) read-in at.ready.sixty (reads true t) refl)
 
     pub read-refused : cadence_in sample.cadence_tenths ≡ false → nothing_ridden (refused_at refusals.Cadence (Some i)) ≡ all
-    read-refused t = refused-by (Read sample) (eventless_act (Refused refusals.Cadence) c) refusals.Cadence read-in (reads false t) refl
+    read-refused t = refused-by (Read sample) (eventless_act (Err refusals.Cadence) c) refusals.Cadence read-in (reads false t) refl
 
   -- A ride, once its questions are asked.
-  module _ (ms mm : ℕ) (u : update_answer c ms mm 193 193 ≡ Accepted) where
+  module _ (ms mm : ℕ) (u : update_answer c ms mm 193 193 ≡ Ok tt) where
     supposes : {k v : ℕ} → k ≡ 193 → v ≡ 193 → Supposes w c ms mm k v
     supposes {k} {v} ek ev =
         update-passed w c ms mm k v (known P at.ready.stands).core (ap₂ (λ (k v : ℕ). update_answer c ms mm k v) ek ev ∙ u)
@@ -139,22 +138,22 @@ module _ (w : Workout) (p : TrainingProfile) (s : List ℕ) (n : ℕ) (c₀ : Co
         ap (λ (k : ℕ). get_or (acts_at s (place_of n i)) k Extend) kind
         ∙ ap₂ (λ (a b : ℕ). acts.Ride (record { 0 = a }) (record { 0 = b })) (sym ems) (sym emm)
 
-    pub ride-refused : (refusal : Refusal) → update_answer c ms mm 193 193 ≡ Refused refusal → nothing_ridden (refused_at refusal (Some i)) ≡ all
+    pub ride-refused : (refusal : Refusal) → update_answer c ms mm 193 193 ≡ Err refusal → nothing_ridden (refused_at refusal (Some i)) ≡ all
     unfolding act_called
     ride-refused refusal u =
-        refused-by act (eventless_act (Refused refusal) c) refusal ride-in
-        (refused-acts w c m [] [] p at.ready.stands g ms mm refusal (eventless_act (Refused refusal) c) u refl) refl
+        refused-by act (eventless_act (Err refusal) c) refusal ride-in
+        (refused-acts w c m [] [] p at.ready.stands g ms mm refusal (eventless_act (Err refusal) c) u refl) refl
 
-    module _ (u : update_answer c ms mm 193 193 ≡ Accepted) where
+    module _ (u : update_answer c ms mm 193 193 ≡ Ok tt) where
       pub idle-next : ms ≡ 0 → At w p s n c₀ m₀ c m (i + 1)
       unfolding act_called
       idle-next z =
-          next-by act (eventless_act Accepted c) ride-in at.ready.sixty
-          (idle-acts w c m [] [] p at.ready.stands g ms mm u (eventless_act Accepted c) z refl) refl
+          next-by act (eventless_act (Ok tt) c) ride-in at.ready.sixty
+          (idle-acts w c m [] [] p at.ready.stands g ms mm u (eventless_act (Ok tt) c) z refl) refl
 
       pub ride-next : {m' ks vs ks' vs' : List ℕ} (k : Core) (d : Ride) → k ≡ totalled ms mm c → (ms ≡ 0 → ⊥)
           → Ridden w p m m' ks vs ks' vs' (started k ms mm) d → At w p s n c₀ m₀ d.core m' (i + 1)
       unfolding act_called
       ride-next {m'} {ks} {vs} {ks'} {vs'} k d e z o =
-          next-by act (record { answer = Accepted; core = d.core; events = d.count }) ride-in o.sixty
+          next-by act (record { answer = (Ok tt); core = d.core; events = d.count }) ride-in o.sixty
           (ride-acts w c m ks vs p at.ready.stands g ms mm u d z (subst (λ (k : Core). Ridden w p m m' ks vs ks' vs' (started k ms mm) d) e o)) refl

@@ -1,4 +1,5 @@
 -- An act is the call that it stands for, kind by kind, and the player after it stands.
+use Rattle.std.specs.Prelude.{Err, Ok, Result, ⊤}
 use mathlib.Core.Path.{◌≡◌, refl, sym, ap, subst, ◌∙◌}
 use mathlib.Core.Bool.{Bool, true, false, cond}
 use mathlib.Core.List.{List, []}
@@ -6,8 +7,6 @@ use Prim.Native.Nat.{ℕ, ◌+◌}
 use lib.Dec.{leb}
 use lib.ListN.{length}
 use native.Mathlib.Omega.{arith}
-use Rattle.refusal.specs.declared.Answer.{Answer}
-use Rattle.refusal.specs.declared.Answer.TheVariants.{Accepted, Refused}
 use Rattle.refusal.specs.declared.Refusal.{Refusal}
 use Rattle.refusal.specs.declared.Refusal.TheVariants as refusals
 use Rattle.refusal.specs.Number.{ask}
@@ -49,19 +48,19 @@ use Rattle.replay.specs.Acts.{long_s, long_m, act_called, Ready, Acts, is_quiet,
 -- question 11, then the reading
 abbrev read_act : Sample → Core → Acted
 read_act sample c =
-    cond (cadence_in sample.cadence_tenths) (eventless_act Accepted (read_core sample c)) (eventless_act (Refused refusals.Cadence) c)
+    cond (cadence_in sample.cadence_tenths) (eventless_act (Ok tt) (read_core sample c)) (eventless_act (Err refusals.Cadence) c)
 
 -- more time or way leaves the step on now
 extend-on : (secs metres : ℕ) (l : Length) (c : Core) → (extend_core secs metres l c).core.on ≡ c.on
 unfolding extend_core
 extend-on secs metres (Time time) c = at (leb (c.lap.extra_s + secs) 86400)
   where
-    at : (b : Bool) → (cond b (longer_core secs 0 c) (not_longer (Refused refusals.Extra) c)).core.on ≡ c.on
+    at : (b : Bool) → (cond b (longer_core secs 0 c) (not_longer (Err refusals.Extra) c)).core.on ≡ c.on
     at true = refl
     at false = refl
 extend-on secs metres (Distance way) c = at (leb (c.lap.extra_m + metres) 1000000)
   where
-    at : (b : Bool) → (cond b (longer_core 0 metres c) (not_longer (Refused refusals.Extra) c)).core.on ≡ c.on
+    at : (b : Bool) → (cond b (longer_core 0 metres c) (not_longer (Err refusals.Extra) c)).core.on ≡ c.on
     at true = refl
     at false = refl
 extend-on secs metres Open c = refl
@@ -71,29 +70,29 @@ module _ (w : Workout) (c : Core) (m ks vs : List ℕ) where
   P = player_of w (riding c m)
 
   -- an act without events
-  none-acts : (r : Acted) (a : Answer) (after : Core) (o : Called) → r ≡ eventless_act a after → eventless a (player_of w (riding after m)) ≡ o
+  none-acts : (r : Acted) (a : Result ⊤ Refusal) (after : Core) (o : Called) → r ≡ eventless_act a after → eventless a (player_of w (riding after m)) ≡ o
       → Acts w m ks vs ks vs r o
   none-acts r a after o e f =
       subst (λ (o : Called). Acts w m ks vs ks vs r o) f
       (subst (λ (r : Acted). Acts w m ks vs ks vs r (eventless a (player_of w (riding after m)))) (sym e)
       (record { answer = refl; player = refl; wrote = wrote_none ks vs 0 }))
 
-  pub profile-acts : (p f : TrainingProfile) (r : Acted) → r ≡ eventless_act Accepted c → Acts w m ks vs ks vs r (act_called p (Profile f) P)
+  pub profile-acts : (p f : TrainingProfile) (r : Acted) → r ≡ eventless_act (Ok tt) c → Acts w m ks vs ks vs r (act_called p (Profile f) P)
   unfolding act_called
-  profile-acts p f r e = none-acts r Accepted c (eventless Accepted P) e refl
+  profile-acts p f r e = none-acts r (Ok tt) c (eventless (Ok tt) P) e refl
 
   module _ (p : TrainingProfile) (e : standing_of P ≡ true) where
     reads-by : (t : Bool) (sample : Sample) (r : Acted)
-        → r ≡ cond t (eventless_act Accepted (read_core sample c)) (eventless_act (Refused refusals.Cadence) c)
-        → Acts w m ks vs ks vs r (of_read (read_by (ask true refusals.Standing (ask t refusals.Cadence Accepted)) P sample))
+        → r ≡ cond t (eventless_act (Ok tt) (read_core sample c)) (eventless_act (Err refusals.Cadence) c)
+        → Acts w m ks vs ks vs r (of_read (read_by (ask true refusals.Standing (ask t refusals.Cadence (Ok tt))) P sample))
     unfolding read_core
-    reads-by true sample r f = none-acts r Accepted (read_core sample c) (of_read (read_by Accepted P sample)) f refl
-    reads-by false sample r f = none-acts r (Refused refusals.Cadence) c (of_read (read_by (Refused refusals.Cadence) P sample)) f refl
+    reads-by true sample r f = none-acts r (Ok tt) (read_core sample c) (of_read (read_by (Ok tt) P sample)) f refl
+    reads-by false sample r f = none-acts r (Err refusals.Cadence) c (of_read (read_by (Err refusals.Cadence) P sample)) f refl
 
     pub read-acts : (sample : Sample) (r : Acted) → r ≡ read_act sample c → Acts w m ks vs ks vs r (called p (read sample) P)
     unfolding called read_of read_answer
     read-acts sample r f =
-        subst (λ (b : Bool). Acts w m ks vs ks vs r (of_read (read_by (ask b refusals.Standing (ask (cadence_in sample.cadence_tenths) refusals.Cadence Accepted)) P sample)))
+        subst (λ (b : Bool). Acts w m ks vs ks vs r (of_read (read_by (ask b refusals.Standing (ask (cadence_in sample.cadence_tenths) refusals.Cadence (Ok tt))) P sample)))
         (sym e) (reads-by (cadence_in sample.cadence_tenths) sample r f)
 
     extended-same : (secs metres : ℕ) → of_extend (extended_by P (extend_core secs metres c.on.length c))
@@ -103,10 +102,10 @@ module _ (w : Workout) (c : Core) (m ks vs : List ℕ) where
         ap (λ (on : StepNow). eventless x.answer (record { core = x.core; workout = w; note = (player_of w (riding (record { position = c.position; steps = c.steps; total_ms = c.total_ms; total_mm = c.total_mm; lap = c.lap; measured = c.measured; summary = c.summary; on = on; readings = c.readings; done = c.done }) m)).note; minute = m }))
         (sym (extend-on secs metres c.on.length c))
 
-    extends-by : (secs metres : ℕ) (d : Bool) (r : Acted) → r ≡ cond d (eventless_act Accepted c) (of_extended (extend_core secs metres c.on.length c))
-        → Acts w m ks vs ks vs r (of_extend (cond d (not_extended Accepted P) (extend_by secs metres c.on.length P)))
+    extends-by : (secs metres : ℕ) (d : Bool) (r : Acted) → r ≡ cond d (eventless_act (Ok tt) c) (of_extended (extend_core secs metres c.on.length c))
+        → Acts w m ks vs ks vs r (of_extend (cond d (not_extended (Ok tt) P) (extend_by secs metres c.on.length P)))
     unfolding extend_by
-    extends-by secs metres true r f = none-acts r Accepted c (of_extend (not_extended Accepted P)) f refl
+    extends-by secs metres true r f = none-acts r (Ok tt) c (of_extend (not_extended (Ok tt) P)) f refl
     extends-by secs metres false r f =
         let x = extend_core secs metres c.on.length c in
         none-acts r x.answer x.core (of_extend (extended_by P x)) f (sym (extended-same secs metres))
@@ -114,11 +113,11 @@ module _ (w : Workout) (c : Core) (m ks vs : List ℕ) where
     pub extend-acts : (secs metres : ℕ) (r : Acted) → r ≡ extend_act secs metres c → Acts w m ks vs ks vs r (called p (extend secs metres) P)
     unfolding called extend_with
     extend-acts secs metres r f =
-        subst (λ (b : Bool). Acts w m ks vs ks vs r (of_extend (cond b (extend_now secs metres c.done P) (not_extended (Refused refusals.Standing) P)))) (sym e)
+        subst (λ (b : Bool). Acts w m ks vs ks vs r (of_extend (cond b (extend_now secs metres c.done P) (not_extended (Err refusals.Standing) P)))) (sym e)
         (extends-by secs metres c.done r f)
 
     skips-by : (d : Bool) (ks' vs' : List ℕ) (r : Acted) → Skips ks vs ks' vs' r (cond d (record { core = c; events = [] }) (next_of w true c))
-        → Acts w m ks vs ks' vs' r (cond d (eventless Accepted P) (skip_to P (next_of w true c)))
+        → Acts w m ks vs ks' vs' r (cond d (eventless (Ok tt) P) (skip_to P (next_of w true c)))
     skips-by true ks' vs' r s = record { answer = s.answer; player = ap (λ (k : Core). player_of w (riding k m)) s.core; wrote = s.wrote }
     skips-by false ks' vs' r s = record { answer = s.answer; player = ap (λ (k : Core). player_of w (riding k m)) s.core; wrote = s.wrote }
 
@@ -128,22 +127,22 @@ module _ (w : Workout) (c : Core) (m ks vs : List ℕ) where
         subst (λ (o : Called). Acts w m ks vs ks' vs' r o) (skip-taken P 193 193 e (passes-193 P e)) (skips-by c.done ks' vs' r s)
 
     module _ (g : profile_ok p ≡ true) (ms mm : ℕ) where
-      pub refused-acts : (refusal : Refusal) (r : Acted) → update_answer c ms mm 193 193 ≡ Refused refusal → r ≡ eventless_act (Refused refusal) c
+      pub refused-acts : (refusal : Refusal) (r : Acted) → update_answer c ms mm 193 193 ≡ Err refusal → r ≡ eventless_act (Err refusal) c
           → Acts w m ks vs ks vs r (called p (ride ms mm 193 193) P)
       unfolding called
-      refused-acts refusal r u f = none-acts r (Refused refusal) c _ f (ride-refused P ms mm p 193 193 refusal e g u)
+      refused-acts refusal r u f = none-acts r (Err refusal) c _ f (ride-refused P ms mm p 193 193 refusal e g u)
 
-      module _ (u : update_answer c ms mm 193 193 ≡ Accepted) where
-        pub idle-acts : (r : Acted) → ms ≡ 0 → r ≡ eventless_act Accepted c → Acts w m ks vs ks vs r (called p (ride ms mm 193 193) P)
+      module _ (u : update_answer c ms mm 193 193 ≡ Ok tt) where
+        pub idle-acts : (r : Acted) → ms ≡ 0 → r ≡ eventless_act (Ok tt) c → Acts w m ks vs ks vs r (called p (ride ms mm 193 193) P)
         unfolding called
-        idle-acts r z f = none-acts r Accepted c _ f (ride-idle P ms mm p z ∙ ride-taken P ms mm p 193 193 e g u)
+        idle-acts r z f = none-acts r (Ok tt) c _ f (ride-idle P ms mm p z ∙ ride-taken P ms mm p 193 193 e g u)
 
         pub ride-acts : {m' ks' vs' : List ℕ} (d : Ride) → (ms ≡ 0 → ⊥) → Ridden w p m m' ks vs ks' vs' (begun c ms mm) d
-            → Acts w m' ks vs ks' vs' (record { answer = Accepted; core = d.core; events = d.count }) (called p (ride ms mm 193 193) P)
+            → Acts w m' ks vs ks' vs' (record { answer = (Ok tt); core = d.core; events = d.count }) (called p (ride ms mm 193 193) P)
         unfolding called
         ride-acts {m'} {ks'} {vs'} d z o =
             let a = ride-made P ms mm p d (player_of w (riding d.core m')) z o refl in
-            subst (λ (k : Called). Acts w m' ks vs ks' vs' (record { answer = Accepted; core = d.core; events = d.count }) k) (ride-taken P ms mm p 193 193 e g u)
+            subst (λ (k : Called). Acts w m' ks vs ks' vs' (record { answer = (Ok tt); core = d.core; events = d.count }) k) (ride-taken P ms mm p 193 193 e g u)
             (record { answer = a.answer; player = a.player; wrote = a.wrote })
 
   -- what the functions suppose of a core that is ready
@@ -156,16 +155,16 @@ module _ (w : Workout) (c : Core) (m ks vs : List ℕ) where
 -- A skip's outcome, when finished and before.
 
 module _ (w : Workout) (c : Core) (ks vs : List ℕ) where
-  pub skip-none : (r : Acted) → c.done ≡ true → r ≡ eventless_act Accepted c → Skips ks vs ks vs r (skip_outcome w c)
+  pub skip-none : (r : Acted) → c.done ≡ true → r ≡ eventless_act (Ok tt) c → Skips ks vs ks vs r (skip_outcome w c)
   skip-none r d e =
       subst (λ (b : Bool). Skips ks vs ks vs r (cond b (record { core = c; events = [] }) (next_of w true c))) (sym d)
       (subst (λ (r : Acted). Skips ks vs ks vs r (record { core = c; events = [] })) (sym e)
       (record { answer = refl; core = refl; wrote = wrote_none ks vs 0 }))
 
   pub skip-moved : (ks' vs' : List ℕ) (r : Moved) → c.done ≡ false → Moves ks vs 0 ks' vs' r (next_of w true c)
-      → Skips ks vs ks' vs' (record { answer = Accepted; core = r.core; events = r.count }) (skip_outcome w c)
+      → Skips ks vs ks' vs' (record { answer = (Ok tt); core = r.core; events = r.count }) (skip_outcome w c)
   skip-moved ks' vs' r d o =
-      subst (λ (b : Bool). Skips ks vs ks' vs' (record { answer = Accepted; core = r.core; events = r.count }) (cond b (record { core = c; events = [] }) (next_of w true c))) (sym d)
+      subst (λ (b : Bool). Skips ks vs ks' vs' (record { answer = (Ok tt); core = r.core; events = r.count }) (cond b (record { core = c; events = [] }) (next_of w true c))) (sym d)
       (record { answer = refl; core = o.core; wrote = o.wrote })
 
 -- an act that reads or rides is none of the others

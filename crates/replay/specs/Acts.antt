@@ -1,8 +1,7 @@
 -- What an act of a ride sheet makes of the player, and the acts one after the other. (An act is document 01's word for an entry of a
 -- ride sheet.)
-use Rattle.std.specs.Prelude.{◌≡◌, Bool, true, false, cond, List, [], ◌∷◌, ℕ, ◌+◌, length}
-use Rattle.refusal.specs.declared.Answer.{Answer}
-use Rattle.refusal.specs.declared.Answer.TheVariants.{Accepted, Refused}
+use Rattle.std.specs.Prelude.{◌≡◌, Bool, true, false, cond, List, [], ◌∷◌, ℕ, ◌+◌, length, Err, None, Ok, Result, Some, ⊤}
+use Rattle.refusal.specs.declared.Refusal.{Refusal}
 use Rattle.names.specs.Names.{empty_name}
 use Rattle.zones.specs.declared.TrainingProfile.{TrainingProfile}
 use Rattle.model.specs.declared.Test.TheVariants as tests
@@ -22,7 +21,6 @@ use Rattle.machine.specs.Runs.{called}
 use Rattle.sheet.specs.declared.Act.{Act}
 use Rattle.sheet.specs.declared.Act.TheVariants.{Profile, Read, Ride, Skip, ExtendLong, Extend}
 use Rattle.sheet.specs.declared.ActAnswer.{ActAnswer}
-use Rattle.sheet.specs.declared.ActOption.TheVariants.{None, Some}
 use Rattle.sheet.specs.Sheet.{accepted_all}
 use Rattle.replay.specs.declared.Acted.{Acted}
 use Rattle.replay.specs.declared.Ridden.{Ridden}
@@ -41,7 +39,7 @@ long_m = 500
 -- The call that an act stands for. Question 17 lets a profile through as the first act alone, and that one is no call. "a new kind 5
 -- means the default"
 unfoldable pub act_called : TrainingProfile → Act → Player → Called
-act_called p (Profile f) player = eventless Accepted player
+act_called p (Profile f) player = eventless (Ok tt) player
 act_called p (Read sample) player = called p (read sample) player
 act_called p (Ride ms mm) player = called p (ride ms.0 mm.0 places places) player
 act_called p Skip player = called p (skip places places) player
@@ -50,7 +48,7 @@ act_called p Extend player = called p (extend default_s default_m) player
 
 -- Acts in a row.
 
--- Refused, nothing is ridden.
+-- Err, nothing is ridden.
 abbrev pub nothing_ridden : ActAnswer → Ridden
 nothing_ridden outcome = record { outcome = outcome; name = empty_name; test = tests.None; summary = no_summary 0 }
 
@@ -58,18 +56,18 @@ nothing_ridden outcome = record { outcome = outcome; name = empty_name; test = t
 abbrev pub ridden_to : Workout → Player → Ridden
 ridden_to w player = record { outcome = accepted_all; name = w.name; test = w.test; summary = player.core.summary }
 
-abbrev pub go_on : Answer → ActAnswer → Ridden → Ridden
-go_on Accepted outcome rest = rest
-go_on (Refused refusal) outcome rest = nothing_ridden outcome
+abbrev pub go_on : Result ⊤ Refusal → ActAnswer → Ridden → Ridden
+go_on (Ok tt) outcome rest = rest
+go_on (Err refusal) outcome rest = nothing_ridden outcome
 
 -- One question or act after the other: the first that is refused ends all.
 abbrev pub unless_refused : ActAnswer → Ridden → Ridden
 unless_refused outcome rest = go_on outcome.answer outcome rest
 
-abbrev pub at_no_act : Answer → ActAnswer
+abbrev pub at_no_act : Result ⊤ Refusal → ActAnswer
 at_no_act answer = record { answer = answer; act = None }
 
-abbrev pub at_act : ℕ → Answer → ActAnswer
+abbrev pub at_act : ℕ → Result ⊤ Refusal → ActAnswer
 at_act i answer = record { answer = answer; act = Some i }
 
 -- "then each act; .. all refusals of acts name the first act at fault", i being the first one's number
@@ -100,7 +98,7 @@ pub record Acts (w : Workout) (minute' ks vs ks' vs' : List ℕ) (r : Acted) (o 
   pub player : player_of w (riding r.core minute') ≡ o.player
   pub wrote : Wrote ks vs 0 ks' vs' r.events o.events
 
-abbrev pub eventless_act : Answer → Core → Acted
+abbrev pub eventless_act : Result ⊤ Refusal → Core → Acted
 eventless_act answer c = record { answer = answer; core = c; events = 0 }
 
 -- The acts that neither read nor ride.
@@ -117,7 +115,7 @@ abbrev pub skip_outcome : Workout → Core → Outcome
 skip_outcome w c = cond c.done (record { core = c; events = [] }) (next_of w true c)
 
 pub record Skips (ks vs ks' vs' : List ℕ) (r : Acted) (o : Outcome) : Type 0 where
-  pub answer : r.answer ≡ Accepted
+  pub answer : r.answer ≡ Ok tt
   pub core : r.core ≡ o.core
   pub wrote : Wrote ks vs 0 ks' vs' r.events o.events
 
@@ -125,4 +123,4 @@ abbrev pub of_extended : ExtendedCore → Acted
 of_extended r = eventless_act r.answer r.core
 
 abbrev pub extend_act : ℕ → ℕ → Core → Acted
-extend_act secs metres c = cond c.done (eventless_act Accepted c) (of_extended (extend_core secs metres c.on.length c))
+extend_act secs metres c = cond c.done (eventless_act (Ok tt) c) (of_extended (extend_core secs metres c.on.length c))

@@ -1,7 +1,6 @@
 -- Document 01: "Replay, with event arrays of its own, asks the workout first, then the sheet, then 19, then each act; 17 and all
 -- refusals of acts name the first act at fault."
-use Rattle.std.specs.Prelude.{◌≡◌, Bool, List, ℕ, ◌-◌, leb, length}
-use Rattle.refusal.specs.declared.Answer.TheVariants.{Accepted}
+use Rattle.std.specs.Prelude.{◌≡◌, Bool, List, ℕ, ◌-◌, leb, length, Ok}
 use Rattle.refusal.specs.declared.Refusal.TheVariants as refusals
 use Rattle.refusal.specs.Number.{ask}
 use Rattle.zones.specs.declared.TrainingProfile.{TrainingProfile}
@@ -30,7 +29,7 @@ play_sheet player s =
 
 -- What `play_sheet` supposes: a fresh player of a workout that passes 5 to 9.
 pub record Fresh (player : Player) : Type 0 where
-  pub passes : workout_answer player.workout ≡ Accepted
+  pub passes : workout_answer player.workout ≡ Ok tt
   pub new : player ≡ fresh player.workout
 
 -- "asks the workout first" (1 to 9, and `new` 5 to 9 again of what passed them), "then the sheet, then 19, then each act"
@@ -39,7 +38,7 @@ ridden_of file s room =
     unless_refused (at_no_act (decode_of file).answer)
     (unless_refused (at_no_act (new_of (decode_of file).workout).answer)
     (unless_refused (check_of s)
-    (unless_refused (at_no_act (ask (leb record_size room) refusals.Output Accepted)) (play_sheet (new_of (decode_of file).workout).player s))))
+    (unless_refused (at_no_act (ask (leb record_size room) refusals.Output (Ok tt))) (play_sheet (new_of (decode_of file).workout).player s))))
 
 -- The record, "with journal, id, start time and a yes or no for whether it is dated".
 abbrev pub replay_record : Ridden → ℕ → ℕ → ℕ → Bool → Record

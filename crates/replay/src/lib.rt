@@ -11,18 +11,16 @@ ghost use Rattle.sheet.specs.Sheet.{size_ok, acts_from};
 ghost use Rattle.replay.specs.Acts.{act_called, nothing_ridden, play_acts, Ready, Acts, is_quiet, eventless_act, skip_outcome, Skips, extend_act};
 ghost use Rattle.replay.specs.Replay.{Fresh, play_sheet, ridden_of, replay_answer, replay_output};
 
-use history::{Record, start_of};
+use history::Record;
 use machine::reading_fits;
 use model::{Test, Workout};
 use names::Name;
 use outcomes::{add_totals, extend_core};
 use player::{EXTEND_M, EXTEND_S, update_answer};
 use record_writer::{RECORD_BYTES, encode};
-use refusal::{Answer, Refusal};
+use refusal::Refusal;
 use rounds::{Ride, end_step, is_stopped, turn};
-use sheet::{
-    Act, ActAnswer, ActOption, accepted_all, act_at, count_of, profile_at, refused_at, sample_at,
-};
+use sheet::{Act, ActAnswer, accepted_all, act_at, count_of, profile_at, refused_at, sample_at};
 use standing::cadence_in;
 use start::no_summary;
 use state::{Core, Mm, Ms, Player, Summary};
@@ -34,7 +32,8 @@ const LONG_S: u32 = 60;
 
 const LONG_M: u32 = 500;
 
-// What a sheet came to: the answer, and what the record takes from workout and player; refused, nothing.
+// What a sheet came to: the answer, and what the record takes from workout and player; refused, nothing (`nothing_ridden`, which the
+// line and the record are made from).
 #[derive(Clone, Copy, Drop)]
 pub struct Ridden {
     pub outcome: ActAnswer,
@@ -43,15 +42,15 @@ pub struct Ridden {
     pub summary: Summary,
 }
 
-// What an act gives: its answer, the core after it, and the number of its events.
+// What an act gives: its answer, the core after it, also after a refusal (`eventless_act`), and the number of its events.
 #[derive(Clone, Copy, Drop)]
 struct Acted {
-    answer: Answer,
+    answer: Result<(), Refusal>,
     core: Core,
     events: usize,
 }
 
-fn eventless(core: Core, answer: Answer) -> Acted
+fn eventless(core: Core, answer: Result<(), Refusal>) -> Acted
     ensures { result ≡ eventless_act answer core }
 {
     Acted {
@@ -66,12 +65,12 @@ fn skip_act(workout: Workout, core: Core, kinds: &mut [u8], values: &mut [u16]) 
     ensures { Skips kinds.old values.old kinds.new values.new result (skip_outcome workout core) }
 {
     if core.done {
-        return eventless(core, Answer::Accepted);
+        return eventless(core, Ok(()));
     }
     let moved = next(workout, core, true, kinds, values, 0);
     let after = moved.core;
     Acted {
-        answer: Answer::Accepted,
+        answer: Ok(()),
         core: after,
         events: moved.count,
     }
@@ -82,7 +81,7 @@ fn extend_act(core: Core, secs: u32, metres: u32) -> Acted
     ensures { result ≡ extend_act secs metres core }
 {
     if core.done {
-        return eventless(core, Answer::Accepted);
+        return eventless(core, Ok(()));
     }
     let made = extend_core(core, secs, metres);
     let answer = made.answer;
@@ -109,10 +108,10 @@ fn quiet_act(
     let power = sample.power_watts;
     reading_fits(power);
     match act {
-        Act::Profile(_) => eventless(core, Answer::Accepted),
+        Act::Profile(_) => eventless(core, Ok(())),
         // The `requires` leaves these two out.
-        Act::Read(_) => eventless(core, Answer::Accepted),
-        Act::Ride(_, _) => eventless(core, Answer::Accepted),
+        Act::Read(_) => eventless(core, Ok(())),
+        Act::Ride(_, _) => eventless(core, Ok(())),
         Act::Skip => skip_act(workout, core, kinds, values),
         Act::ExtendLong => extend_act(core, LONG_S, LONG_M),
         Act::Extend => extend_act(core, EXTEND_S, EXTEND_M),
@@ -142,8 +141,7 @@ fn play(fresh: Player, profile: TrainingProfile, sheet: &[u8], n: usize) -> Ridd
     let mut minute = fresh.minute;
     let mut core = fresh.core;
     let test = workout.test;
-    let mut i: usize = 1;
-    while i < n {
+    for i in 1..n {
         // That the last reading has 16 bits is part of what the player after the act stands on.
         let readings = core.readings;
         let last = readings.last_sample;
@@ -155,11 +153,10 @@ fn play(fresh: Player, profile: TrainingProfile, sheet: &[u8], n: usize) -> Ridd
             let ms = Ms(le::get_u32(sheet, at) as u64);
             let mm = Mm(le::get_u32(sheet, at + 4) as u64);
             let asked = update_answer(core, ms, mm, 193, 193);
-            if let Answer::Refused(refusal) = asked {
-                return nothing_ridden(refused_at(refusal, ActOption::Some(i as u16)));
+            if let Err(refusal) = asked {
+                return nothing_ridden(refused_at(refusal, Some(i as u16)));
             }
             if ms.0 == 0 {
-                i += 1;
                 continue;
             }
             let mut ride = Ride {
@@ -181,17 +178,15 @@ fn play(fresh: Player, profile: TrainingProfile, sheet: &[u8], n: usize) -> Ridd
                 }
             }
             core = ride.core;
-            i += 1;
             continue;
         }
         if kind == 1 {
             let sample = sample_at(sheet, at);
             let cadence = sample.cadence_tenths;
             if !cadence_in(cadence) {
-                return nothing_ridden(refused_at(Refusal::Cadence, ActOption::Some(i as u16)));
+                return nothing_ridden(refused_at(Refusal::Cadence, Some(i as u16)));
             }
             core = core.read(sample);
-            i += 1;
             continue;
         }
         let act = act_at(sheet, n, i);
@@ -207,11 +202,10 @@ fn play(fresh: Player, profile: TrainingProfile, sheet: &[u8], n: usize) -> Ridd
             &mut values,
         );
         let answer = acted.answer;
-        if let Answer::Refused(refusal) = answer {
-            return nothing_ridden(refused_at(refusal, ActOption::Some(i as u16)));
+        if let Err(refusal) = answer {
+            return nothing_ridden(refused_at(refusal, Some(i as u16)));
         }
         core = acted.core;
-        i += 1;
     }
     let name = workout.name;
     let summary = core.summary;
@@ -231,8 +225,8 @@ fn play_sheet(fresh: Player, sheet: &[u8]) -> Ridden
     let n = count_of(sheet);
     let profile = profile_at(sheet, 2 + n);
     match profile.check() {
-        Answer::Accepted => play(fresh, profile, sheet, n),
-        Answer::Refused(refusal) => nothing_ridden(refused_at(refusal, ActOption::Some(0))),
+        Ok(()) => play(fresh, profile, sheet, n),
+        Err(refusal) => nothing_ridden(refused_at(refusal, Some(0))),
     }
 }
 
@@ -242,22 +236,22 @@ pub fn ride_sheet(file: &[u8], sheet: &[u8], room: usize) -> Ridden
 {
     let decoded = decode::decode(file);
     let read = decoded.answer;
-    if let Answer::Refused(refusal) = read {
-        return nothing_ridden(refused_at(refusal, ActOption::None));
+    if let Err(refusal) = read {
+        return nothing_ridden(refused_at(refusal, None));
     }
     let workout = decoded.workout;
     let made = start::new(workout);
     let begun = made.answer;
-    if let Answer::Refused(refusal) = begun {
-        return nothing_ridden(refused_at(refusal, ActOption::None));
+    if let Err(refusal) = begun {
+        return nothing_ridden(refused_at(refusal, None));
     }
     let checked = sheet::check(sheet);
     let acts = checked.answer;
-    if let Answer::Refused(_) = acts {
+    if let Err(_) = acts {
         return nothing_ridden(checked);
     }
     if room < RECORD_BYTES {
-        return nothing_ridden(refused_at(Refusal::Output, ActOption::None));
+        return nothing_ridden(refused_at(Refusal::Output, None));
     }
     play_sheet(made.player, sheet)
 }
@@ -278,7 +272,7 @@ pub fn replay(
     let ride = ride_sheet(file, sheet, out.len());
     let outcome = ride.outcome;
     let answer = outcome.answer;
-    if let Answer::Refused(_) = answer {
+    if let Err(_) = answer {
         return outcome;
     }
     let name = ride.name;
@@ -287,11 +281,12 @@ pub fn replay(
     let stored = Record {
         journal,
         ride_id: id,
-        started_utc_ms: start_of(dated, start),
+        started_utc_ms: dated.then_some(start),
         name,
         test,
         summary,
     };
-    encode(stored, out);
+    // It can't be refused: the workout's name passed 5, and 19 was asked.
+    let _ = encode(stored, out);
     outcome
 }

@@ -1,4 +1,5 @@
 -- The acts of a sheet are calls of which the third demand speaks, so their record is the machine's.
+use Rattle.std.specs.Prelude.{Ok, Result, ⊤}
 use mathlib.Core.Path.{◌≡◌, ap, ap₂, ◌∙◌}
 use mathlib.Core.Bool.{Bool, true, false}
 use mathlib.Core.List.{List, [], ◌∷◌}
@@ -8,9 +9,8 @@ use lib.ListN.{length, take, drop, get_or}
 use Rattle.common.specs.Lists.{all}
 use Rattle.le.specs.Le.{number_of, part, Bytes, written}
 use Rattle.le.proofs.Laws.{bytes_drop}
-use Rattle.refusal.specs.declared.Answer.{Answer}
-use Rattle.refusal.specs.declared.Answer.TheVariants.{Accepted}
 use Rattle.refusal.specs.declared.Refusal.TheVariants as refusals
+use Rattle.refusal.specs.declared.Refusal.{Refusal}
 use Rattle.zones.specs.declared.TrainingProfile.{TrainingProfile}
 use Rattle.zones.specs.Zones.{profile_ok, profile_answer}
 use Rattle.model.specs.declared.Workout.{Workout}
@@ -93,30 +93,30 @@ module _ (file s : List ℕ) (bf : Bytes file) (bs : Bytes s) where
   abbrev p : TrainingProfile
   p = profile_in s
 
-  taken : (decode_of file).answer ≡ Accepted → all is_plain (steps_of w) ≡ true → Held w
+  taken : (decode_of file).answer ≡ Ok tt → all is_plain (steps_of w) ≡ true → Held w
   taken e plain =
-      let is : decode_of file ≡ accepted_as w = ap (λ (a : Answer). record { answer = a; workout = w }) e in
+      let is : decode_of file ≡ accepted_as w = ap (λ (a : Result ⊤ Refusal). record { answer = a; workout = w }) e in
       record { taken = record { passes = read-is-written.sound file bf w is; plain = plain }; twelve = (read-is-written.fits file bf w is).twelve }
 
   -- the fresh player is the workout's
-  new-workout : workout_answer w ≡ Accepted → (new_of w).player.workout ≡ w
+  new-workout : workout_answer w ≡ Ok tt → (new_of w).player.workout ≡ w
   unfolding new_of fresh
-  new-workout e = ap (λ (a : Answer). (new_by w a).player.workout) e
+  new-workout e = ap (λ (a : Result ⊤ Refusal). (new_by w a).player.workout) e
 
-  summary-same : (decode_of file).answer ≡ Accepted → all is_plain (steps_of w) ≡ true → profile_answer p ≡ Accepted
+  summary-same : (decode_of file).answer ≡ Ok tt → all is_plain (steps_of w) ≡ true → profile_answer p ≡ Ok tt
       → (run p (sheet_calls s) (new_of w).player).player.core.summary ≡ summary_of w (machine_after w s)
   unfolding sheet_calls machine_after profile_answer
   summary-same e plain ok =
-      summary-alone w p (taken e plain) (ask-left (profile_ok p) refusals.Profile Accepted ok) (sheet_calls s) (from-fits s bs (count_in s) 1 (count_in s - 1))
+      summary-alone w p (taken e plain) (ask-left (profile_ok p) refusals.Profile (Ok tt) ok) (sheet_calls s) (from-fits s bs (count_in s) 1 (count_in s - 1))
 
-  pub output-same : all is_plain (steps_of w) ≡ true → (journal id start : ℕ) (dated : Bool) (out : List ℕ) → (replay_answer file s (length out)).answer ≡ Accepted
+  pub output-same : all is_plain (steps_of w) ≡ true → (journal id start : ℕ) (dated : Bool) (out : List ℕ) → (replay_answer file s (length out)).answer ≡ Ok tt
       → replay_output file s journal id start dated out ≡ written out 0 (machine_record w (machine_after w s) journal id start dated)
   unfolding replay_answer replay_output sheet_calls
   output-same plain journal id start dated out e =
       let h = accepts file s (length out) e in
       let r = ridden_of file s (length out) in
       let v = new-workout (taken h.file-passes plain).taken.passes in
-      ap (λ (a : Answer). output_by a (replay_record r journal id start dated) out) e
+      ap (λ (a : Result ⊤ Refusal). output_by a (replay_record r journal id start dated) out) e
       ∙ ap (λ (r : Ridden). written out 0 (record_bytes (replay_record r journal id start dated))) h.ridden
       ∙ ap₂ (λ (v : Workout) (x : Summary). written out 0 (record_bytes (record_of v.name v.test x journal id start dated))) v (summary-same h.file-passes plain h.profile-passes)
 

@@ -1,4 +1,5 @@
 -- The record writer accepts the record of every player that a cut list gives: its name is the workout's, which passed question 5.
+use Rattle.std.specs.Prelude.{Ok, Result, ⊤}
 use mathlib.Core.Path.{◌≡◌, ap, ap₂, ◌∙◌}
 use mathlib.Core.Bool.{Bool, true}
 use mathlib.Core.List.{List}
@@ -6,10 +7,9 @@ use Prim.Native.Nat.{ℕ, ◌≤◌}
 use lib.ListN.{length}
 use borrow.Author.Tests.{le-leb}
 use Rattle.le.specs.Le.{written}
-use Rattle.refusal.specs.declared.Answer.{Answer}
-use Rattle.refusal.specs.declared.Answer.TheVariants.{Accepted}
 use Rattle.refusal.specs.declared.Refusal.TheVariants as refusals
 use Rattle.refusal.specs.Number.{ask}
+use Rattle.refusal.specs.declared.Refusal.{Refusal}
 use Rattle.names.specs.Names.{name_ok}
 use Rattle.zones.specs.declared.TrainingProfile.{TrainingProfile}
 use Rattle.zones.specs.Zones.{profile_ok}
@@ -36,17 +36,17 @@ module _ (w : Workout) (p : TrainingProfile) (l : List CutCall) (t : Taken w) (o
   workout-is : player.workout ≡ w
   workout-is = (after_list w p held ok l i.reads).after.same.workout
 
-  accepted : (journal id start room : ℕ) (dated : Bool) → record_size ≤ room → write_answer (record_for player journal id start dated) room ≡ Accepted
+  accepted : (journal id start room : ℕ) (dated : Bool) → record_size ≤ room → write_answer (record_for player journal id start dated) room ≡ Ok tt
   unfolding write_answer
   accepted journal id start room dated h =
-      ap₂ (λ (name enough : Bool). ask name refusals.Field (ask enough refusals.Output Accepted))
+      ap₂ (λ (name enough : Bool). ask name refusals.Field (ask enough refusals.Output (Ok tt)))
       (ap (λ (v : Workout). name_ok v.name) workout-is ∙ name-passes w t.passes) (le-leb record_size room h)
 
   written_is : (journal id start : ℕ) (dated : Bool) (out : List ℕ) → record_size ≤ length out
       → output_of (record_for player journal id start dated) out ≡ written out 0 (machine_record w (after_calls w p l begun).machine journal id start dated)
   unfolding output_of
   written_is journal id start dated out h =
-      ap (λ (a : Answer). output_by a (record_for player journal id start dated) out) (accepted journal id start (length out) dated h)
+      ap (λ (a : Result ⊤ Refusal). output_by a (record_for player journal id start dated) out) (accepted journal id start (length out) dated h)
       ∙ ap₂ (λ (v : Workout) (s : Summary). written out 0 (record_bytes (record_of v.name v.test s journal id start dated))) workout-is
       (summary-is w p held ok l i.reads)
 

@@ -1,8 +1,7 @@
 -- Document 01, 'The millisecond machine': "For such a workout the replay's record too is this machine's after its acts."
-use Rattle.std.specs.Prelude.{◌≡◌, Bool, true, List, ℕ, ◌-◌, length}
+use Rattle.std.specs.Prelude.{◌≡◌, Bool, true, List, ℕ, ◌-◌, length, Ok}
 use Rattle.common.specs.Lists.{all}
 use Rattle.le.specs.Le.{Bytes, written}
-use Rattle.refusal.specs.declared.Answer.TheVariants.{Accepted}
 use Rattle.model.specs.declared.Workout.{Workout}
 use Rattle.model.specs.Workout.{steps_of}
 use Rattle.decode.specs.Decode.{decode_of}
@@ -27,5 +26,5 @@ machine_after w s = (after_calls w (profile_in s) (alone (sheet_calls s)) begun)
 abbrev pub ReplayMachine : Type 0
 ReplayMachine =
     (file s : List ℕ) → Bytes file → Bytes s → all is_plain (steps_of (decode_of file).workout) ≡ true → (journal id start : ℕ) (dated : Bool) (out : List ℕ)
-    → (replay_answer file s (length out)).answer ≡ Accepted
+    → (replay_answer file s (length out)).answer ≡ Ok tt
     → replay_output file s journal id start dated out ≡ written out 0 (machine_record (decode_of file).workout (machine_after (decode_of file).workout s) journal id start dated)

@@ -1,8 +1,7 @@
 -- Document 01, 'The millisecond machine': "The stored record is what the record writer gives for the player, after the last piece of a
 -- cut ride, with whatever journal, id and start."
-use Rattle.std.specs.Prelude.{◌≡◌, Bool, true, List, ℕ, ◌≤◌, length}
+use Rattle.std.specs.Prelude.{◌≡◌, Bool, true, List, ℕ, ◌≤◌, length, Ok}
 use Rattle.le.specs.Le.{written}
-use Rattle.refusal.specs.declared.Answer.TheVariants.{Accepted}
 use Rattle.zones.specs.declared.TrainingProfile.{TrainingProfile}
 use Rattle.zones.specs.Zones.{profile_ok}
 use Rattle.model.specs.declared.Workout.{Workout}
@@ -22,7 +21,7 @@ record_for player journal id start dated = record_of player.workout.name player.
 -- the player's record, and what it writes is the machine's.
 pub record Stored (w : Workout) (p : TrainingProfile) (l : List CutCall) : Type 0 where
   pub accepted : (journal id start room : ℕ) (dated : Bool) → record_size ≤ room
-      → write_answer (record_for (cut_run w p l).player journal id start dated) room ≡ Accepted
+      → write_answer (record_for (cut_run w p l).player journal id start dated) room ≡ Ok tt
   pub written_is : (journal id start : ℕ) (dated : Bool) (out : List ℕ) → record_size ≤ length out
       → output_of (record_for (cut_run w p l).player journal id start dated) out
       ≡ written out 0 (machine_record w (after_calls w p l begun).machine journal id start dated)

@@ -2,55 +2,55 @@
 #![tactic(auto)]
 
 ghost use Rattle.std.specs.Prelude.{◌≡◌};
-ghost use Rattle.refusal.specs.declared.Answer.TheVariants.{Refused};
 ghost use Rattle.state.specs.State.{part};
 ghost use Rattle.screen.specs.Screen.{no_now};
 ghost use Rattle.reports.specs.Reports.{summary_of, remaining_secs, distance_of, until_of, places_of, now_of};
 
-use model::BandOption;
-use order::{NO_PLAYED, PlayedOption};
-use power::ReadingOption;
+use order::NO_PLAYED;
 use readings::ComplianceOption;
-use refusal::{Answer, Refusal};
-use screen::{Left, Now, SecsOption, TestReadout, is_distance, now_in, remaining};
+use refusal::Refusal;
+use screen::{Left, Now, TestReadout, is_distance, now_in, remaining};
 use standing::is_standing;
 use start::no_summary;
 use state::{Mm, Ms, Part, Player, Summary};
 use zones::TrainingProfile;
 
+// Structs and no `Result`: what stands beside a refusal is part of each contract (`summary_of` to `now_of`), as document 01 has it
+// ("reports give nothing and `until_end` 0 and 0").
+
 #[derive(Clone, Copy, Drop)]
 pub struct SummaryRead {
-    pub answer: Answer,
+    pub answer: Result<(), Refusal>,
     pub summary: Summary,
 }
 
 #[derive(Clone, Copy, Drop)]
 pub struct RemainingRead {
-    pub answer: Answer,
-    pub secs: SecsOption,
+    pub answer: Result<(), Refusal>,
+    pub secs: Option<u32>,
 }
 
 #[derive(Clone, Copy, Drop)]
 pub struct DistanceRead {
-    pub answer: Answer,
+    pub answer: Result<(), Refusal>,
     pub distance: bool,
 }
 
 #[derive(Clone, Copy, Drop)]
 pub struct PartRead {
-    pub answer: Answer,
+    pub answer: Result<(), Refusal>,
     pub part: Part,
 }
 
 #[derive(Clone, Copy, Drop)]
 pub struct PlacesRead {
-    pub answer: Answer,
+    pub answer: Result<(), Refusal>,
     pub places: usize,
 }
 
 #[derive(Clone, Copy, Drop)]
 pub struct NowRead {
-    pub answer: Answer,
+    pub answer: Result<(), Refusal>,
     pub now: Now,
 }
 
@@ -61,12 +61,12 @@ pub fn summary(player: Player) -> SummaryRead
         let core = player.core;
         let summary = core.summary;
         return SummaryRead {
-            answer: Answer::Accepted,
+            answer: Ok(()),
             summary,
         };
     }
     SummaryRead {
-        answer: Answer::Refused(Refusal::Standing),
+        answer: Err(Refusal::Standing),
         summary: no_summary(0),
     }
 }
@@ -79,13 +79,13 @@ pub fn remaining_secs(player: Player) -> RemainingRead
         let workout = player.workout;
         let core = player.core;
         return RemainingRead {
-            answer: Answer::Accepted,
+            answer: Ok(()),
             secs: remaining(workout, core),
         };
     }
     RemainingRead {
-        answer: Answer::Refused(Refusal::Standing),
-        secs: SecsOption::None,
+        answer: Err(Refusal::Standing),
+        secs: None,
     }
 }
 
@@ -98,21 +98,21 @@ pub fn distance_step(player: Player) -> DistanceRead
         let on = core.on;
         let length = on.length;
         return DistanceRead {
-            answer: Answer::Accepted,
+            answer: Ok(()),
             distance: is_distance(length),
         };
     }
     DistanceRead {
-        answer: Answer::Refused(Refusal::Standing),
+        answer: Err(Refusal::Standing),
         distance: false,
     }
 }
 
 fn no_part(refusal: Refusal) -> PartRead
-    ensures { result ≡ record { answer = Refused refusal; part = part 0 0 } }
+    ensures { result ≡ record { answer = Err refusal; part = part 0 0 } }
 {
     PartRead {
-        answer: Answer::Refused(refusal),
+        answer: Err(refusal),
         part: Part {
             ms: Ms(0),
             mm: Mm(0),
@@ -128,7 +128,7 @@ pub fn until_end(player: Player, ms: Ms, mm: Mm) -> PartRead
         if (ms.0 <= 86400000) & (mm.0 <= 1000000000) {
             let core = player.core;
             return PartRead {
-                answer: Answer::Accepted,
+                answer: Ok(()),
                 part: core.until_end(ms, mm),
             };
         }
@@ -144,35 +144,32 @@ pub fn event_places(player: Player) -> PlacesRead
     if is_standing(player) {
         let core = player.core;
         return PlacesRead {
-            answer: Answer::Accepted,
+            answer: Ok(()),
             places: core.event_places(),
         };
     }
     PlacesRead {
-        answer: Answer::Refused(Refusal::Standing),
+        answer: Err(Refusal::Standing),
         places: 0,
     }
 }
 
 fn no_now(refusal: Refusal) -> NowRead
-    ensures { result ≡ record { answer = Refused refusal; now = no_now } }
+    ensures { result ≡ record { answer = Err refusal; now = no_now } }
 {
     NowRead {
-        answer: Answer::Refused(refusal),
+        answer: Err(refusal),
         now: Now {
             position: 0,
             steps: 0,
             played: NO_PLAYED,
-            band: BandOption::None,
-            ramp_watts: ReadingOption::None,
-            reading: ReadingOption::None,
+            band: None,
+            ramp_watts: None,
+            reading: None,
             compliance: ComplianceOption::NoBand,
             left: Left::Open(0),
             progress: 0,
-            next: PlayedOption {
-                found: false,
-                played: NO_PLAYED,
-            },
+            next: None,
             test: TestReadout::None,
         },
     }
@@ -185,11 +182,11 @@ pub fn now(player: Player, profile: TrainingProfile) -> NowRead
     if is_standing(player) {
         let answer = profile.check();
         return match answer {
-            Answer::Accepted => NowRead {
-                answer: Answer::Accepted,
+            Ok(()) => NowRead {
+                answer: Ok(()),
                 now: now_in(player, profile),
             },
-            Answer::Refused(refusal) => no_now(refusal),
+            Err(refusal) => no_now(refusal),
         };
     }
     no_now(Refusal::Standing)

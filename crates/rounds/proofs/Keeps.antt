@@ -1,4 +1,5 @@
 -- A part, and a step's end, keep what is known of a core that stands.
+use Rattle.std.specs.Prelude.{None, Option, Some, is_some}
 use mathlib.Core.Path.{◌≡◌, refl, sym, ap, subst, ◌∙◌}
 use mathlib.Core.Bool.{Bool, true, false, cond, not}
 use Prim.Native.Nat.{ℕ, zero, suc, ◌+◌, ◌-◌, ◌*◌, ◌/◌, ◌≤◌, ◌<◌, min}
@@ -13,13 +14,11 @@ use Rattle.model.specs.declared.Length.TheVariants.{Time, Distance, Open}
 use Rattle.model.specs.declared.Test.{Test}
 use Rattle.model.specs.declared.Test.TheVariants as tests
 use Rattle.model.specs.declared.Workout.{Workout}
-use Rattle.order.specs.declared.PlayedOption.{PlayedOption}
-use Rattle.order.specs.Order.{played_of, played_len}
+use Rattle.order.specs.declared.Played.{Played}
+use Rattle.order.specs.Order.{played_of, played_len, played_in}
 use Rattle.order.proofs.Within.{playing-order}
 use Rattle.validation.proofs.Passes.{Passes, passes, played-sound}
 use Rattle.validation.specs.Sound.{length_ok}
-use Rattle.power.specs.declared.ReadingOption.{ReadingOption}
-use Rattle.power.specs.declared.ReadingOption.TheVariants.{None, Some}
 use Rattle.readings.specs.declared.Compliance.TheVariants.{Under, In, Over}
 use Rattle.readings.specs.declared.ComplianceOption.{ComplianceOption}
 use Rattle.readings.specs.declared.ComplianceOption.TheVariants.{NoBand, NoReading}
@@ -106,7 +105,7 @@ pub record MeterKept (ms : ℕ) (m m' : Meter) : Type 0 where
   pub low : m'.measured.ramp_low_ms ≤ m.measured.ramp_low_ms + ms
   pub time : m'.measured.test_ms ≤ m.measured.test_ms + ms
 
-low-within : (target : ℕ) (o : ReadingOption) (ms low : ℕ) → low_by target o ms low ≤ low + ms
+low-within : (target : ℕ) (o : Option ℕ) (ms low : ℕ) → low_by target o ms low ≤ low + ms
 low-within target None ms low = omega arith
 low-within target (Some watts) ms low = cond-by (λ (n : ℕ). n ≤ low + ms) (leb (target * 90) (watts * 100)) (λ _. omega arith) (λ _. omega arith)
 
@@ -170,23 +169,23 @@ fresh-below (Time secs) h = let some : 0 < secs = ltb-true 0 secs h in lt-ltb 0 
 fresh-below (Distance metres) h = let some : 100 ≤ metres = leb-true 100 metres h in lt-ltb 0 (min (metres + 0) 4294967295 * 1000) (omega arith)
 fresh-below Open h = refl
 
-fresh-lap : (found : PlayedOption) (on : StepNow) → (found.found ≡ true → length_ok found.played.step.length ≡ true)
-    → lap_ok (not found.found) (step_after found on).length fresh_lap ≡ true
-fresh-lap found on h = at found.found refl
+fresh-lap : (found : Option Played) (on : StepNow) → ((is_some found) ≡ true → length_ok (played_in found).step.length ≡ true)
+    → lap_ok (not (is_some found)) (step_after found on).length fresh_lap ≡ true
+fresh-lap found on h = at (is_some found) refl
   where
-    at : (b : Bool) → found.found ≡ b → lap_ok (not b) (cond b (step_now found.played) on).length fresh_lap ≡ true
-    at true e = rw (fresh-below found.played.step.length (h e))
+    at : (b : Bool) → is_some found ≡ b → lap_ok (not b) (cond b (step_now (played_in found)) on).length fresh_lap ≡ true
+    at true e = rw (fresh-below (played_in found).step.length (h e))
     at false e = refl
 
-next-step : (w : Workout) (n : ℕ) (found : PlayedOption) (on : StepNow) → found ≡ played_of w (n + 1) → same_step on (step_now (played_of w n).played) ≡ true
-    → same_step (step_after found on) (step_now (played_of w (cond (not found.found) (n + 1 - 1) (n + 1))).played) ≡ true
-next-step w n found on e h = at found.found
+next-step : (w : Workout) (n : ℕ) (found : Option Played) (on : StepNow) → found ≡ played_of w (n + 1) → same_step on (step_now (played_in (played_of w n))) ≡ true
+    → same_step (step_after found on) (step_now (played_in (played_of w (cond (not (is_some found)) (n + 1 - 1) (n + 1))))) ≡ true
+next-step w n found on e h = at (is_some found)
   where
     back : n + 1 - 1 ≡ n
     back = omega arith
 
-    at : (b : Bool) → same_step (cond b (step_now found.played) on) (step_now (played_of w (cond (not b) (n + 1 - 1) (n + 1))).played) ≡ true
-    at true = rw (← e) (same-itself (step_now found.played))
+    at : (b : Bool) → same_step (cond b (step_now (played_in found)) on) (step_now (played_in (played_of w (cond (not b) (n + 1 - 1) (n + 1))))) ≡ true
+    at true = rw (← e) (same-itself (step_now (played_in found)))
     at false = rw back h
 
 -- the place of the step on now, unless done
@@ -210,8 +209,8 @@ module _ (x y : ℕ) (w : Workout) (skipped : Bool) (c : Core) (h : Within x y w
   next-stands =
       let v : Passes w = passes w h.valid in
       let below : c.position < played_len w = not-done-below x y w c h d in
-      let found : PlayedOption = played_of w (c.position + 1) in
-      let f : found.found ≡ ltb (c.position + 1) (played_len w) = playing-order.played_below w v.blocks (c.position + 1) in
+      let found : Option Played = played_of w (c.position + 1) in
+      let f : is_some found ≡ ltb (c.position + 1) (played_len w) = playing-order.played_below w v.blocks (c.position + 1) in
       record {
         within =
             record {
@@ -228,12 +227,12 @@ module _ (x y : ℕ) (w : Workout) (skipped : Bool) (c : Core) (h : Within x y w
               targeted = h.targeted;
               step-ms = omega (arith, h.step-ms);
               step-mm = omega (arith, h.step-mm);
-              energy = cond-by SmallEnergy found.found (λ _. omega arith) (λ _. h.energy);
-              test-ms = cond-by (λ (m : Measured). m.test_ms + x ≤ c.total_ms.0) found.found (λ _. omega (arith, h.test-ms)) (λ _. h.test-ms);
-              low = cond-by (λ (m : Measured). m.ramp_low_ms + x ≤ c.total_ms.0) found.found (λ _. h.low) (λ _. h.low);
-              rest = cond-by (λ (m : Measured). m.minute_rest_ms < 1000) found.found (λ _. omega arith) (λ _. h.rest);
-              place = cond-by (λ (m : Measured). m.ring.minute_at < 60) found.found (λ _. omega arith) (λ _. h.place);
-              long = cond-by (λ (m : Measured). m.ring.minute_len ≤ 60) found.found (λ _. omega arith) (λ _. h.long);
+              energy = cond-by SmallEnergy (is_some found) (λ _. omega arith) (λ _. h.energy);
+              test-ms = cond-by (λ (m : Measured). m.test_ms + x ≤ c.total_ms.0) (is_some found) (λ _. omega (arith, h.test-ms)) (λ _. h.test-ms);
+              low = cond-by (λ (m : Measured). m.ramp_low_ms + x ≤ c.total_ms.0) (is_some found) (λ _. h.low) (λ _. h.low);
+              rest = cond-by (λ (m : Measured). m.minute_rest_ms < 1000) (is_some found) (λ _. omega arith) (λ _. h.rest);
+              place = cond-by (λ (m : Measured). m.ring.minute_at < 60) (is_some found) (λ _. omega arith) (λ _. h.place);
+              long = cond-by (λ (m : Measured). m.ring.minute_len ≤ 60) (is_some found) (λ _. omega arith) (λ _. h.long);
               next = h.next;
               cadence = h.cadence;
               total-ms = h.total-ms;
@@ -242,10 +241,10 @@ module _ (x y : ℕ) (w : Workout) (skipped : Bool) (c : Core) (h : Within x y w
         lap = fresh-lap found c.on (played-sound w (c.position + 1) v);
       }
     where
-      next_place : same_step (step_after (played_of w (c.position + 1)) c.on) (step_now (played_of w (on_place (next_of w skipped c).core)).played) ≡ true
+      next_place : same_step (step_after (played_of w (c.position + 1)) c.on) (step_now (played_in (played_of w (on_place (next_of w skipped c).core)))) ≡ true
       next_place =
           next-step w c.position (played_of w (c.position + 1)) c.on refl
-          (subst (λ (n : ℕ). same_step c.on (step_now (played_of w n).played) ≡ true) (not-done-place c d) h.step)
+          (subst (λ (n : ℕ). same_step c.on (step_now (played_in (played_of w n))) ≡ true) (not-done-place c d) h.step)
 
 -- a part that does not end its step leaves it below its end
 stay-stands : (x y : ℕ) (w : Workout) (p : TrainingProfile) (c : Core) → Within x y w c → c.done ≡ false → is_over p c ≡ false

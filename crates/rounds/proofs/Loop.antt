@@ -1,4 +1,5 @@
 -- The loop: what is known after each of its rounds.
+use Rattle.std.specs.Prelude.{is_some}
 use mathlib.Core.Path.{◌≡◌, refl, sym, ap, subst, ◌∙◌}
 use mathlib.Core.Logic.{◌⊎◌, inl, inr, ⊎_elim}
 use mathlib.Core.Bool.{Bool, true, false, cond}
@@ -13,7 +14,7 @@ use Rattle.model.specs.declared.Workout.{Workout}
 use Rattle.order.specs.Order.{played_len, played_of}
 use Rattle.events.specs.Events.{Event, Wrote, ftp}
 use Rattle.events.proofs.Laws.{wrote_none, wrote_then, one_at_most}
-use Rattle.power.specs.Power.{is_some, or_zero}
+use Rattle.power.specs.Power.{or_zero}
 use Rattle.state.specs.declared.Core.{Core}
 use Rattle.state.specs.State.{SmallEnergy, until_end}
 use Rattle.measure.specs.Measure.{result_of}
@@ -31,7 +32,7 @@ pub next-few : (w : Workout) (skipped : Bool) (c : Core) → length (next_of w s
 unfolding next_of
 next-few w skipped c =
     let result = result_of w.test c.on c.lap skipped c.measured in
-    omega (arith, length-append (ftp_events result) (after_event (played_of w (c.position + 1)).found (c.position + 1) ∷ []), one_at_most (is_some result) (ftp (or_zero result)))
+    omega (arith, length-append (ftp_events result) (after_event (is_some (played_of w (c.position + 1))) (c.position + 1) ∷ []), one_at_most (is_some result) (ftp (or_zero result)))
 
 pub next-position : (w : Workout) (skipped : Bool) (c : Core) → (next_of w skipped c).core.position ≡ c.position + 1
 unfolding next_of arrived

@@ -151,13 +151,11 @@ pub fn ride_rounds(
     ensures { Ridden workout profile minute.old minute.new kinds.old values.old kinds.new values.new start result }
 {
     let mut ride = start;
-    let mut i: usize = 0;
-    while i < 97 {
+    for _ in 0..97usize {
         if is_stopped(ride) {
             return ride;
         }
         ride = round(workout, profile, ride, minute, kinds, values);
-        i += 1;
     }
     ride
 }

@@ -1,22 +1,17 @@
 -- player.rs: what a screen shows of a player.
-use Rattle.std.specs.Prelude.{Bool, true, false, cond, ◌||◌, ℕ, ◌+◌, ◌-◌, ◌*◌, ◌/◌, ◌≤◌, min, max, leb}
+use Rattle.std.specs.Prelude.{Bool, true, false, cond, ◌||◌, ℕ, ◌+◌, ◌-◌, ◌*◌, ◌/◌, ◌≤◌, min, max, leb, None, Option, Some}
 use Rattle.names.specs.declared.Name.{Name}
 use Rattle.zones.specs.declared.TrainingProfile.{TrainingProfile}
 use Rattle.model.specs.declared.Length.{Length}
 use Rattle.model.specs.declared.Length.TheVariants.{Time, Distance, Open}
 use Rattle.model.specs.declared.Test.{Test}
 use Rattle.model.specs.declared.Test.TheVariants as tests
-use Rattle.model.specs.declared.BandOption.{BandOption}
-use Rattle.model.specs.declared.BandOption.TheVariants as bands
-use Rattle.model.specs.declared.RampOption.{RampOption}
-use Rattle.model.specs.declared.RampOption.TheVariants as ramps
 use Rattle.model.specs.declared.Workout.{Workout}
+use Rattle.model.specs.declared.Band.{Band}
+use Rattle.model.specs.declared.Ramp.{Ramp}
 use Rattle.model.specs.Target.{watts_at, ramp_option, band_of}
 use Rattle.order.specs.declared.Played.{Played}
-use Rattle.order.specs.declared.PlayedOption.{PlayedOption}
 use Rattle.order.specs.Order.{no_played, nothing, played_of, planned_from, has_untimed}
-use Rattle.power.specs.declared.ReadingOption.{ReadingOption}
-use Rattle.power.specs.declared.ReadingOption.TheVariants.{None, Some}
 use Rattle.readings.specs.declared.Readings.{Readings}
 use Rattle.readings.specs.declared.ComplianceOption.TheVariants as how
 use Rattle.power.specs.Power.{average_of}
@@ -27,8 +22,6 @@ use Rattle.state.specs.declared.Core.{Core}
 use Rattle.state.specs.declared.Player.{Player}
 use Rattle.state.specs.State.{duration_ms, distance_m, SmallEnergy}
 use Rattle.measure.specs.Measure.{test_in}
-use Rattle.screen.specs.declared.SecsOption.{SecsOption}
-use Rattle.screen.specs.declared.SecsOption.TheVariants as seconds
 use Rattle.screen.specs.declared.Left.TheVariants as left
 use Rattle.screen.specs.declared.Shown.{Shown}
 use Rattle.screen.specs.declared.TestReadout.{TestReadout}
@@ -40,13 +33,13 @@ abbrev pub seconds_up : ℕ → ℕ
 seconds_up ms = (ms + 999) / 1000
 
 -- player.rs, `remaining_secs`: what is left of the step on now and the steps ahead, when all of the workout is timed and not yet done.
-abbrev pub remaining_in : Length → Lap → ℕ → SecsOption
-remaining_in (Time secs) lap ahead = seconds.Some (ahead + seconds_up (duration_ms secs lap - lap.step_ms))
-remaining_in (Distance metres) lap ahead = seconds.None
-remaining_in Open lap ahead = seconds.None
+abbrev pub remaining_in : Length → Lap → ℕ → Option ℕ
+remaining_in (Time secs) lap ahead = Some (ahead + seconds_up (duration_ms secs lap - lap.step_ms))
+remaining_in (Distance metres) lap ahead = None
+remaining_in Open lap ahead = None
 
-unfoldable pub remaining_of : Workout → Core → SecsOption
-remaining_of w c = cond (c.done || has_untimed w) seconds.None (remaining_in c.on.length c.lap (planned_from w (c.position + 1)))
+unfoldable pub remaining_of : Workout → Core → Option ℕ
+remaining_of w c = cond (c.done || has_untimed w) None (remaining_in c.on.length c.lap (planned_from w (c.position + 1)))
 
 -- player.rs, `distance_step`: the step on now lasts a distance.
 abbrev pub is_distance : Length → Bool
@@ -71,20 +64,20 @@ shown_of (Distance metres) lap =
 shown_of Open lap = record { left = left.Open (lap.step_ms / 1000); progress = 0 }
 
 -- The watts of the ramp's stage on now.
-abbrev pub ramp_watts_of : RampOption → ℕ → ReadingOption
-ramp_watts_of ramps.None elapsed = None
-ramp_watts_of (ramps.Some ramp) elapsed = Some (watts_at ramp elapsed)
+abbrev pub ramp_watts_of : Option Ramp → ℕ → Option ℕ
+ramp_watts_of None elapsed = None
+ramp_watts_of (Some ramp) elapsed = Some (watts_at ramp elapsed)
 
 -- The reading the band is checked against; without a band the power average.
-abbrev pub shown_reading : BandOption → Readings → ReadingOption
-shown_reading bands.None r = average_of r.power
-shown_reading (bands.Some band) r = reading_of band.metric r
+abbrev pub shown_reading : Option Band → Readings → Option ℕ
+shown_reading None r = average_of r.power
+shown_reading (Some band) r = reading_of band.metric r
 
 -- A test's running number: the average of the twenty minutes so far, the ramp's best minute.
 abbrev pub average_readout : Measured → TestReadout
 average_readout m = cond (leb m.test_ms 0) readout.None (readout.Average ((m.test_mj + m.test_ms / 2) / m.test_ms))
 
-abbrev pub minute_readout : ReadingOption → TestReadout
+abbrev pub minute_readout : Option ℕ → TestReadout
 minute_readout None = readout.None
 minute_readout (Some watts) = readout.BestMinute watts
 
@@ -103,20 +96,20 @@ played_now c note =
     }
 
 -- "After the end `now` shows the last step afresh, without band." So ramp, next step and test are shown before the end alone.
-unfoldable pub shown_band : Core → TrainingProfile → BandOption
-shown_band c profile = cond c.done bands.None (band_of c.on.target profile (c.lap.step_ms / 1000))
+unfoldable pub shown_band : Core → TrainingProfile → Option Band
+shown_band c profile = cond c.done None (band_of c.on.target profile (c.lap.step_ms / 1000))
 
-unfoldable pub shown_ramp : Core → TrainingProfile → ReadingOption
+unfoldable pub shown_ramp : Core → TrainingProfile → Option ℕ
 shown_ramp c profile = cond c.done None (ramp_watts_of (ramp_option c.on.target profile) (c.lap.step_ms / 1000))
 
-unfoldable pub shown_next : Workout → Core → PlayedOption
+unfoldable pub shown_next : Workout → Core → Option Played
 shown_next w c = cond c.done nothing (played_of w (c.position + 1))
 
 unfoldable pub shown_readout : Core → Test → TestReadout
 shown_readout c test = cond c.done readout.None (readout_by (test_in c.on.intensity test) c.measured)
 
 -- The screen's numbers, by the band that is shown.
-abbrev pub now_with : BandOption → Core → Name → Workout → TrainingProfile → Now
+abbrev pub now_with : Option Band → Core → Name → Workout → TrainingProfile → Now
 now_with band c note w profile =
     record {
       position = min c.position (c.steps - 1);
@@ -141,7 +134,7 @@ no_now =
       position = 0;
       steps = 0;
       played = no_played;
-      band = bands.None;
+      band = None;
       ramp_watts = None;
       reading = None;
       compliance = how.NoBand;

@@ -1,26 +1,18 @@
 // player.rs: what a screen shows of a player: what remains of the workout, and `Now`. A standing player is supposed; the calls ask.
 #![tactic(auto)]
 
-ghost use Rattle.std.specs.Prelude.{◌≡◌, ◌+◌, ◌-◌, ◌/◌, ◌≤◌, min, max};
+ghost use Rattle.std.specs.Prelude.{◌≡◌, ◌+◌, ◌-◌, ◌/◌, ◌≤◌, min};
 ghost use Rattle.model.specs.declared.Length.TheVariants.{Time, Distance};
 ghost use Rattle.state.specs.State.{duration_ms, SmallEnergy};
 ghost use Rattle.screen.specs.Screen.{seconds_up, remaining_in, remaining_of, is_distance, shown_of, ramp_watts_of, shown_reading, readout_by, minute_readout, average_readout, played_now, shown_band, shown_ramp, shown_next, shown_readout, now_in, ReportFits};
 
-use common::least;
 use measure::test_in;
-use model::{BandOption, Length, RampOption, Step, Test, Workout};
+use model::{Band, Length, Step, Test, Workout};
 use names::Name;
-use order::{NO_PLAYED, Played, PlayedOption, has_untimed_steps, planned_from, played_at};
-use power::ReadingOption;
+use order::{Played, has_untimed_steps, planned_from, played_at};
 use readings::{ComplianceOption, Readings};
-use state::{Core, Lap, Measured, Player, last_of, less};
+use state::{Core, Lap, Measured, Player};
 use zones::TrainingProfile;
-
-#[derive(Clone, Copy, Drop)]
-pub enum SecsOption {
-    None,
-    Some(u32),
-}
 
 #[derive(Clone, Copy, Drop)]
 pub enum Left {
@@ -37,7 +29,7 @@ pub struct Shown {
     pub progress: u16,
 }
 
-// A test's running number on screen.
+// A test's running number on screen: three cases and no `Option`, since the two numbers are shown as different things.
 #[derive(Clone, Copy, Drop)]
 pub enum TestReadout {
     None,
@@ -53,16 +45,16 @@ pub struct Now {
     pub position: u8,
     pub steps: u8,
     pub played: Played,
-    pub band: BandOption,
+    pub band: Option<Band>,
     // The watts of the ramp's stage on now; its band is wider than that.
-    pub ramp_watts: ReadingOption,
+    pub ramp_watts: Option<u16>,
     // The reading the band is checked against.
-    pub reading: ReadingOption,
+    pub reading: Option<u16>,
     pub compliance: ComplianceOption,
     pub left: Left,
     // How far through the step, in thousandths; zero for open steps.
     pub progress: u16,
-    pub next: PlayedOption,
+    pub next: Option<Played>,
     pub test: TestReadout,
 }
 
@@ -79,27 +71,27 @@ fn left_ms(lap: Lap, secs: u16) -> u64
     requires { lap.extra_s ≤ 86400 }
     ensures { (result ≡ duration_ms secs lap - lap.step_ms) × (result ≤ 604800000) }
 {
-    less(lap.duration_ms(secs), lap.step_ms)
+    lap.duration_ms(secs).saturating_sub(lap.step_ms)
 }
 
-fn remaining_in(length: Length, lap: Lap, ahead: u32) -> SecsOption
+fn remaining_in(length: Length, lap: Lap, ahead: u32) -> Option<u32>
     requires { (lap.extra_s ≤ 86400) × (ahead ≤ 6291360) }
     ensures { result ≡ remaining_in length lap ahead }
 {
     match length {
-        Length::Time(secs) => SecsOption::Some(ahead + seconds_up(left_ms(lap, secs))),
-        Length::Distance(_) => SecsOption::None,
-        Length::Open => SecsOption::None,
+        Length::Time(secs) => Some(ahead + seconds_up(left_ms(lap, secs))),
+        Length::Distance(_) => None,
+        Length::Open => None,
     }
 }
 
-pub fn remaining(workout: Workout, core: Core) -> SecsOption
+pub fn remaining(workout: Workout, core: Core) -> Option<u32>
     requires { ReportFits core }
     ensures { result ≡ remaining_of workout core }
 {
     let over = core.done | has_untimed_steps(workout);
     if over {
-        return SecsOption::None;
+        return None;
     }
     let on = core.on;
     let length = on.length;
@@ -110,43 +102,29 @@ pub fn remaining(workout: Workout, core: Core) -> SecsOption
 pub fn is_distance(length: Length) -> bool
     ensures { result ≡ is_distance length }
 {
-    match length {
-        Length::Time(_) => false,
-        Length::Distance(_) => true,
-        Length::Open => false,
-    }
+    matches!(length, Length::Distance(_))
 }
 
-fn at_least_1(n: u64) -> u64
-    ensures { result ≡ max n 1 }
-{
-    if n == 0 { 1 } else { n }
-}
-
-fn thousandths(n: u64) -> u16
-    ensures { result ≡ min n 1000 }
-{
-    if n < 1000 { n as u16 } else { 1000 }
-}
-
+#[tactic(auto, unfolding(crate::specs::Screen::shown_of))]
 fn shown_time(lap: Lap, secs: u16) -> Shown
     requires { (lap.extra_s ≤ 86400) × (lap.step_ms ≤ 604800000) }
     ensures { result ≡ shown_of (Time secs) lap }
 {
     Shown {
         left: Left::Secs(seconds_up(left_ms(lap, secs))),
-        progress: thousandths(lap.step_ms * 1000 / at_least_1(lap.duration_ms(secs))),
+        progress: (lap.step_ms * 1000 / lap.duration_ms(secs).max(1)).min(1000) as u16,
     }
 }
 
+#[tactic(auto, unfolding(crate::specs::Screen::shown_of))]
 fn shown_distance(lap: Lap, metres: u32) -> Shown
     requires { lap.step_mm ≤ 7000000000 }
     ensures { result ≡ shown_of (Distance metres) lap }
 {
     let whole = lap.distance_m(metres);
     Shown {
-        left: Left::Metres(less(whole, lap.step_mm / 1000) as u32),
-        progress: thousandths(lap.step_mm / at_least_1(whole)),
+        left: Left::Metres(whole.saturating_sub(lap.step_mm / 1000) as u32),
+        progress: (lap.step_mm / whole.max(1)).min(1000) as u16,
     }
 }
 
@@ -164,29 +142,29 @@ fn left_now(length: Length, lap: Lap) -> Shown
     }
 }
 
-fn ramp_now(core: Core, profile: TrainingProfile) -> ReadingOption
+#[tactic(auto, unfolding(crate::specs::Screen::shown_ramp))]
+fn ramp_now(core: Core, profile: TrainingProfile) -> Option<u16>
     requires { ReportFits core }
     ensures { result ≡ shown_ramp core profile }
 {
     if core.done {
-        return ReadingOption::None;
+        return None;
     }
     let on = core.on;
     let target = on.target;
     let lap = core.lap;
-    match target.ramp(profile) {
-        RampOption::None => ReadingOption::None,
-        RampOption::Some(ramp) => ReadingOption::Some(ramp.watts((lap.step_ms / 1000) as u32)),
-    }
+    target
+        .ramp(profile)
+        .map(|ramp| ramp.watts((lap.step_ms / 1000) as u32))
 }
 
 // The band of the step on now, at its current second.
-pub fn band_now(core: Core, profile: TrainingProfile) -> BandOption
+pub fn band_now(core: Core, profile: TrainingProfile) -> Option<Band>
     requires { ReportFits core }
     ensures { result ≡ shown_band core profile }
 {
     if core.done {
-        return BandOption::None;
+        return None;
     }
     let on = core.on;
     let target = on.target;
@@ -194,15 +172,15 @@ pub fn band_now(core: Core, profile: TrainingProfile) -> BandOption
     target.band(profile, (lap.step_ms / 1000) as u32)
 }
 
-fn reading_now(band: BandOption, readings: Readings) -> ReadingOption
+fn reading_now(band: Option<Band>, readings: Readings) -> Option<u16>
     ensures { result ≡ shown_reading band readings }
 {
     match band {
-        BandOption::None => {
+        None => {
             let power = readings.power;
             power.watts()
         }
-        BandOption::Some(found) => {
+        Some(found) => {
             let metric = found.metric;
             readings.reading(metric)
         }
@@ -220,12 +198,12 @@ fn average_readout(measured: Measured) -> TestReadout
     TestReadout::Average(((measured.test_mj + ms / 2) / ms) as u16)
 }
 
-fn minute_readout(best: ReadingOption) -> TestReadout
+fn minute_readout(best: Option<u16>) -> TestReadout
     ensures { result ≡ minute_readout best }
 {
     match best {
-        ReadingOption::None => TestReadout::None,
-        ReadingOption::Some(watts) => TestReadout::BestMinute(watts),
+        None => TestReadout::None,
+        Some(watts) => TestReadout::BestMinute(watts),
     }
 }
 
@@ -257,15 +235,12 @@ fn readout_now(core: Core, test: Test) -> TestReadout
     readout(test_in(intensity, test), measured)
 }
 
-fn next_now(workout: Workout, core: Core) -> PlayedOption
+fn next_now(workout: Workout, core: Core) -> Option<Played>
     requires { ReportFits core }
     ensures { result ≡ shown_next workout core }
 {
     if core.done {
-        return PlayedOption {
-            found: false,
-            played: NO_PLAYED,
-        };
+        return None;
     }
     played_at(workout, core.position + 1)
 }
@@ -295,7 +270,7 @@ fn position_now(core: Core) -> u8
     requires { ReportFits core }
     ensures { result ≡ min core.position (core.steps - 1) }
 {
-    least(core.position, last_of(core.steps)) as u8
+    core.position.min(core.steps.saturating_sub(1)) as u8
 }
 
 pub fn now_in(player: Player, profile: TrainingProfile) -> Now

@@ -1,4 +1,5 @@
 -- Ride sheets written and read again, and read and written again.
+use Rattle.std.specs.Prelude.{Err, None, Ok, Option, Some}
 use mathlib.Core.Path.{◌≡◌, refl, sym, ap, ap₂, ◌∙◌, subst}
 use mathlib.Core.Bool.{Bool, true, false, cond, not, ◌&&◌}
 use mathlib.Core.List.{List, [], ◌∷◌, ◌++◌, map, flat_map, append_assoc, append-nil}
@@ -12,17 +13,13 @@ use Rattle.common.specs.Lists.{all}
 use Rattle.common.proofs.Tests.{and_left, and_right, and_both}
 use Rattle.le.specs.Le.{number_of, bytes_of, part, Bytes}
 use Rattle.le.proofs.Laws.{length-bytes, number_bytes, bytes_number, number_lt, bytes-part, length_part, part-add}
-use Rattle.refusal.specs.declared.Answer.TheVariants.{Accepted, Refused}
 use Rattle.refusal.specs.declared.Refusal.TheVariants as refusals
-use Rattle.power.specs.declared.ReadingOption.{ReadingOption}
-use Rattle.power.specs.declared.ReadingOption.TheVariants as readings
 use Rattle.power.specs.Power.{or_zero, reading_at}
 use Rattle.readings.specs.declared.Sample.{Sample}
 use Rattle.readings.specs.Readings.{flag_set}
 use Rattle.sheet.specs.declared.Act.{Act}
 use Rattle.sheet.specs.declared.Act.TheVariants.{Profile, Read, Ride, Skip, ExtendLong, Extend}
 use Rattle.sheet.specs.declared.ActAnswer.{ActAnswer}
-use Rattle.sheet.specs.declared.ActOption.TheVariants as numbers
 use Rattle.sheet.specs.Sheet.{word2, word4, count_in, size_ok, kind_in, place_of, profile_at, flags_at, sample_at, acts_at, act_in, acts_from, absent_ok, sample_ok, unused_at, valueless_ok, act_by, act_ok, fault_from, accepted_all, refused_at, fault_answer, check_of}
 use Rattle.sheet.specs.Bytes.{kind_of, flag_if, flags_of, value_of, sheet_bytes, is_profile, is_call, opens, ActFits, AllFit, IsSheet}
 use Rattle.sheet.specs.RoundTrip.{acts_of, WrittenIsRead, ReadIsWritten}
@@ -58,25 +55,25 @@ module _ (s : List ℕ) (at : ℕ) where
 -- Written, then read.
 
 -- Readings and their flags, written and read: what is said of the three, and that question 17 lets them pass.
-pub record FlagsAgain (a b c : ReadingOption) (f : ℕ) : Type 0 where
+pub record FlagsAgain (a b c : Option ℕ) (f : ℕ) : Type 0 where
   pub power-is : reading_at (flag_set f 1) (or_zero a) ≡ a
   pub heart-is : reading_at (flag_set f 2) (or_zero b) ≡ b
   pub cadence-is : reading_at (flag_set f 4) (or_zero c) ≡ c
   pub passes : (leb f 7 && (absent_ok (flag_set f 1) (or_zero a) && absent_ok (flag_set f 2) (or_zero b) && absent_ok (flag_set f 4) (or_zero c))) ≡ true
 
-flags-again : (a b c : ReadingOption) → FlagsAgain a b c (flag_if a 1 + flag_if b 2 + flag_if c 4)
-flags-again readings.None readings.None readings.None = record { power-is = refl; heart-is = refl; cadence-is = refl; passes = refl }
-flags-again readings.None readings.None (readings.Some c) = record { power-is = refl; heart-is = refl; cadence-is = refl; passes = refl }
-flags-again readings.None (readings.Some b) readings.None = record { power-is = refl; heart-is = refl; cadence-is = refl; passes = refl }
-flags-again readings.None (readings.Some b) (readings.Some c) = record { power-is = refl; heart-is = refl; cadence-is = refl; passes = refl }
-flags-again (readings.Some a) readings.None readings.None = record { power-is = refl; heart-is = refl; cadence-is = refl; passes = refl }
-flags-again (readings.Some a) readings.None (readings.Some c) = record { power-is = refl; heart-is = refl; cadence-is = refl; passes = refl }
-flags-again (readings.Some a) (readings.Some b) readings.None = record { power-is = refl; heart-is = refl; cadence-is = refl; passes = refl }
-flags-again (readings.Some a) (readings.Some b) (readings.Some c) = record { power-is = refl; heart-is = refl; cadence-is = refl; passes = refl }
+flags-again : (a b c : Option ℕ) → FlagsAgain a b c (flag_if a 1 + flag_if b 2 + flag_if c 4)
+flags-again None None None = record { power-is = refl; heart-is = refl; cadence-is = refl; passes = refl }
+flags-again None None (Some c) = record { power-is = refl; heart-is = refl; cadence-is = refl; passes = refl }
+flags-again None (Some b) None = record { power-is = refl; heart-is = refl; cadence-is = refl; passes = refl }
+flags-again None (Some b) (Some c) = record { power-is = refl; heart-is = refl; cadence-is = refl; passes = refl }
+flags-again (Some a) None None = record { power-is = refl; heart-is = refl; cadence-is = refl; passes = refl }
+flags-again (Some a) None (Some c) = record { power-is = refl; heart-is = refl; cadence-is = refl; passes = refl }
+flags-again (Some a) (Some b) None = record { power-is = refl; heart-is = refl; cadence-is = refl; passes = refl }
+flags-again (Some a) (Some b) (Some c) = record { power-is = refl; heart-is = refl; cadence-is = refl; passes = refl }
 
-flag-most : (r : ReadingOption) (value : ℕ) → flag_if r value ≤ value
-flag-most readings.None value = omega arith
-flag-most (readings.Some x) value = omega arith
+flag-most : (r : Option ℕ) (value : ℕ) → flag_if r value ≤ value
+flag-most None value = omega arith
+flag-most (Some x) value = omega arith
 
 -- The four words of a read.
 module _ (s : Sample) (h : ActFits (Read s)) where
@@ -491,7 +488,7 @@ module _ (s : List ℕ) (b : Bytes s) (n : ℕ) (long : length s ≡ 2 + 9 * n) 
       let here : (act_ok s n 0 ≡ true) × (0 + 1 + k ≤ fault_from s n (0 + 1) k) = no-fault-here 0 k (omega arith) in
       and_both (act-back 0 (omega arith) here.0).profile-is (calls_back 0 k (omega arith) here.1)
 
-module _ (s : List ℕ) (b : Bytes s) (e : (check_of s).answer ≡ Accepted) where
+module _ (s : List ℕ) (b : Bytes s) (e : (check_of s).answer ≡ Ok tt) where
   abbrev amount : ℕ
   amount = count_in s
 
@@ -500,11 +497,11 @@ module _ (s : List ℕ) (b : Bytes s) (e : (check_of s).answer ≡ Accepted) whe
 
   none-at-fault : amount ≤ fault_from s amount 0 amount
   unfolding check_of
-  none-at-fault = by (ltb (fault_from s amount 0 amount) amount) refl (ap (λ (t : Bool). (cond t (fault_answer (fault_from s amount 0 amount) amount) (refused_at refusals.SheetLength numbers.None)).answer) (sym (accepted-sized s e)) ∙ e)
+  none-at-fault = by (ltb (fault_from s amount 0 amount) amount) refl (ap (λ (t : Bool). (cond t (fault_answer (fault_from s amount 0 amount) amount) (refused_at refusals.SheetLength None)).answer) (sym (accepted-sized s e)) ∙ e)
     where
-      by : (t : Bool) → ltb (fault_from s amount 0 amount) amount ≡ t → (fault_answer (fault_from s amount 0 amount) amount).answer ≡ Accepted → amount ≤ fault_from s amount 0 amount
+      by : (t : Bool) → ltb (fault_from s amount 0 amount) amount ≡ t → (fault_answer (fault_from s amount 0 amount) amount).answer ≡ Ok tt → amount ≤ fault_from s amount 0 amount
       by true f g =
-          let z : Refused refusals.Act ≡ Accepted = sym (ap (λ (t : Bool). (cond {A = ActAnswer} t (refused_at refusals.Act (numbers.Some (fault_from s amount 0 amount))) accepted_all).answer) f) ∙ g in
+          let z : Err refusals.Act ≡ Ok tt = sym (ap (λ (t : Bool). (cond {A = ActAnswer} t (refused_at refusals.Act (Some (fault_from s amount 0 amount))) accepted_all).answer) f) ∙ g in
           let y : ◌≡◌ {A = ℕ} 0 1 = cc in absurd (omega arith)
       by false f g = ltb-false (fault_from s amount 0 amount) amount f
 

@@ -1,10 +1,8 @@
 -- Document 01, 'Ride sheet': the bytes that a list of acts is written as.
-use Rattle.std.specs.Prelude.{◌≡◌, Bool, true, false, not, ◌&&◌, ℕ, ◌+◌, ◌≤◌, ◌<◌, length, replicate}
+use Rattle.std.specs.Prelude.{◌≡◌, Bool, true, false, not, ◌&&◌, ℕ, ◌+◌, ◌≤◌, ◌<◌, length, replicate, None, Option, Some}
 use mathlib.Core.List.{List, [], ◌∷◌, ◌++◌, map, flat_map}
 use Rattle.common.specs.Lists.{all}
 use Rattle.le.specs.Le.{bytes_of}
-use Rattle.power.specs.declared.ReadingOption.{ReadingOption}
-use Rattle.power.specs.declared.ReadingOption.TheVariants.{None, Some}
 use Rattle.power.specs.Power.{or_zero}
 use Rattle.readings.specs.declared.Sample.{Sample}
 use Rattle.sheet.specs.declared.Act.{Act}
@@ -20,7 +18,7 @@ kind_of ExtendLong = 4
 kind_of Extend = 5
 
 -- "flag values 1, 2, 4 say which are present"
-abbrev pub flag_if : ReadingOption → ℕ → ℕ
+abbrev pub flag_if : Option ℕ → ℕ → ℕ
 flag_if None value = 0
 flag_if (Some reading) value = value
 

@@ -1,9 +1,7 @@
 -- Ride sheets are accepted: what is written of a list of acts passes questions 16 and 17 and is read as that list, and a sheet that
 -- passes them is the one written from what is read of it.
-use Rattle.std.specs.Prelude.{◌≡◌, List, [], ◌∷◌, ℕ}
+use Rattle.std.specs.Prelude.{◌≡◌, List, [], ◌∷◌, ℕ, None, Ok, Some}
 use Rattle.le.specs.Le.{Bytes}
-use Rattle.refusal.specs.declared.Answer.TheVariants.{Accepted}
-use Rattle.power.specs.declared.ReadingOption.TheVariants as readings
 use Rattle.sheet.specs.declared.Act.{Act}
 use Rattle.sheet.specs.declared.Act.TheVariants.{Profile, Read, Ride, Skip, ExtendLong, Extend}
 use Rattle.sheet.specs.Sheet.{count_in, acts_from, accepted_all, check_of}
@@ -18,14 +16,14 @@ pub record WrittenIsRead : Type 0 where
   pub same : (acts : List Act) → IsSheet acts → acts_of (sheet_bytes acts) ≡ acts
 
 pub record ReadIsWritten : Type 0 where
-  pub is_sheet : (s : List ℕ) → Bytes s → (check_of s).answer ≡ Accepted → IsSheet (acts_of s)
-  pub same : (s : List ℕ) → Bytes s → (check_of s).answer ≡ Accepted → sheet_bytes (acts_of s) ≡ s
+  pub is_sheet : (s : List ℕ) → Bytes s → (check_of s).answer ≡ Ok tt → IsSheet (acts_of s)
+  pub same : (s : List ℕ) → Bytes s → (check_of s).answer ≡ Ok tt → sheet_bytes (acts_of s) ≡ s
 
 -- A sheet with an act of each kind: FTP 200 W and LTHR 160, 150 W and a cadence of 90.0 without a heart rate, 10,000 ms with 70,000 mm.
 abbrev pub sample : List Act
 sample =
     Profile (record { ftp_watts = 200; lthr_bpm = 160 })
-    ∷ Read (record { power_watts = readings.Some 150; heart_bpm = readings.None; cadence_tenths = readings.Some 900 })
+    ∷ Read (record { power_watts = Some 150; heart_bpm = None; cadence_tenths = Some 900 })
     ∷ Ride (record { 0 = 10000 }) (record { 0 = 70000 }) ∷ Skip ∷ ExtendLong ∷ Extend ∷ []
 
 pub record SampleSheet : Type 0 where

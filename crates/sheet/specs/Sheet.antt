@@ -1,8 +1,7 @@
 -- Document 01, 'Ride sheet': "a 2-byte count n from 1 to 4,096, then n kind bytes, then n values of 8 bytes", with questions 16 and 17.
 -- (A ride sheet is the paper's name for a stored list of calls with their values, and an act its name for one of them.)
-use Rattle.std.specs.Prelude.{Bool, false, cond, not, ◌&&◌, ◌||◌, List, [], ◌∷◌, ℕ, zero, suc, ◌+◌, ◌*◌, ltb, leb, eqb, length, get_or}
+use Rattle.std.specs.Prelude.{Bool, false, cond, not, ◌&&◌, ◌||◌, List, [], ◌∷◌, ℕ, zero, suc, ◌+◌, ◌*◌, ltb, leb, eqb, length, get_or, Err, None, Ok, Option, Some}
 use Rattle.le.specs.Le.{number_of, part}
-use Rattle.refusal.specs.declared.Answer.TheVariants.{Accepted, Refused}
 use Rattle.refusal.specs.declared.Refusal.{Refusal}
 use Rattle.refusal.specs.declared.Refusal.TheVariants as refusals
 use Rattle.zones.specs.declared.TrainingProfile.{TrainingProfile}
@@ -11,8 +10,6 @@ use Rattle.power.specs.Power.{reading_at}
 use Rattle.readings.specs.Readings.{flag_set}
 use Rattle.sheet.specs.declared.Act.{Act}
 use Rattle.sheet.specs.declared.Act.TheVariants.{Profile, Read, Ride, Skip, ExtendLong, Extend}
-use Rattle.sheet.specs.declared.ActOption.{ActOption}
-use Rattle.sheet.specs.declared.ActOption.TheVariants.{None, Some}
 use Rattle.sheet.specs.declared.ActAnswer.{ActAnswer}
 
 abbrev pub word2 : List ℕ → ℕ → ℕ
@@ -113,10 +110,10 @@ fault_from s n i (suc k) = cond (act_ok s n i) (fault_from s n (i + 1) k) i
 -- Both questions.
 
 abbrev pub accepted_all : ActAnswer
-accepted_all = record { answer = Accepted; act = None }
+accepted_all = record { answer = (Ok tt); act = None }
 
-abbrev pub refused_at : Refusal → ActOption → ActAnswer
-refused_at refusal act = record { answer = Refused refusal; act = act }
+abbrev pub refused_at : Refusal → Option ℕ → ActAnswer
+refused_at refusal act = record { answer = Err refusal; act = act }
 
 -- "17 and all refusals of acts name the first act at fault"
 abbrev pub fault_answer : ℕ → ℕ → ActAnswer

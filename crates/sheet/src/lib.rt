@@ -6,9 +6,8 @@ ghost use Rattle.std.specs.Prelude.{◌≡◌, ◌+◌, ◌*◌, ◌≤◌, ◌<
 ghost use Rattle.sheet.specs.RoundTrip.{WrittenIsRead, ReadIsWritten, SampleSheet};
 ghost use Rattle.sheet.specs.Sheet.{count_in, size_ok, absent_ok, profile_at, sample_at, sample_ok, unused_at, act_ok, act_in, fault_from, accepted_all, refused_at, check_of};
 
-use power::reading_at;
 use readings::{Sample, is_set};
-use refusal::{Answer, Refusal};
+use refusal::Refusal;
 use state::{Mm, Ms};
 use zones::TrainingProfile;
 
@@ -33,34 +32,27 @@ pub enum Act {
     Extend,
 }
 
-// The number of an act, from 0, if one is named.
-#[derive(Clone, Copy, Drop)]
-pub enum ActOption {
-    None,
-    Some(u16),
-}
-
 // An answer, and the act that a refusal names.
 #[derive(Clone, Copy, Drop)]
 pub struct ActAnswer {
-    pub answer: Answer,
-    pub act: ActOption,
+    pub answer: Result<(), Refusal>,
+    pub act: Option<u16>,
 }
 
 pub fn accepted_all() -> ActAnswer
     ensures { result ≡ accepted_all }
 {
     ActAnswer {
-        answer: Answer::Accepted,
-        act: ActOption::None,
+        answer: Ok(()),
+        act: None,
     }
 }
 
-pub fn refused_at(refusal: Refusal, act: ActOption) -> ActAnswer
+pub fn refused_at(refusal: Refusal, act: Option<u16>) -> ActAnswer
     ensures { result ≡ refused_at refusal act }
 {
     ActAnswer {
-        answer: Answer::Refused(refusal),
+        answer: Err(refusal),
         act,
     }
 }
@@ -100,9 +92,9 @@ pub fn sample_at(sheet: &[u8], at: usize) -> Sample
     let cadence = le::get_u16(sheet, at + 4);
     let flags = le::get_u16(sheet, at + 6);
     Sample {
-        power_watts: reading_at(is_set(flags, POWER), power),
-        heart_bpm: reading_at(is_set(flags, HEART), heart),
-        cadence_tenths: reading_at(is_set(flags, CADENCE), cadence),
+        power_watts: is_set(flags, POWER).then_some(power),
+        heart_bpm: is_set(flags, HEART).then_some(heart),
+        cadence_tenths: is_set(flags, CADENCE).then_some(cadence),
     }
 }
 
@@ -162,14 +154,7 @@ fn first_fault(sheet: &[u8], n: usize) -> usize
     requires { (n ≤ 4096) × (length sheet.now ≡ 2 + 9 * n) }
     ensures { result ≡ fault_from sheet.now n 0 n }
 {
-    let mut i = 0;
-    while i < n {
-        if !is_act(sheet, n, i) {
-            return i;
-        }
-        i += 1;
-    }
-    n
+    (0..n).find(|i| !is_act(sheet, n, *i)).unwrap_or(n)
 }
 
 // Question 16, then 17, which names the first act at fault.
@@ -177,12 +162,12 @@ pub fn check(sheet: &[u8]) -> ActAnswer
     ensures { result ≡ check_of sheet.now }
 {
     if !is_sized(sheet) {
-        return refused_at(Refusal::SheetLength, ActOption::None);
+        return refused_at(Refusal::SheetLength, None);
     }
     let n = count_of(sheet);
     let fault = first_fault(sheet, n);
     if fault < n {
-        return refused_at(Refusal::Act, ActOption::Some(fault as u16));
+        return refused_at(Refusal::Act, Some(fault as u16));
     }
     accepted_all()
 }

@@ -1,4 +1,5 @@
 -- A standing player's tests as facts, and back.
+use Rattle.std.specs.Prelude.{Err, Ok, Result, ⊤}
 use mathlib.Core.Path.{◌≡◌, refl, sym, ap}
 use mathlib.Core.Bool.{Bool, true, false, cond, ◌&&◌}
 use mathlib.Core.List.{List, [], ◌∷◌}
@@ -7,10 +8,9 @@ use native.Mathlib.Omega.{arith}
 use lib.Dec.{ltb, leb, eqb}
 use borrow.Author.Tests.{leb-true, ltb-true, eqb-true, le-leb, lt-ltb, eq-eqb}
 use Rattle.common.proofs.Tests.{and_left, and_right, and_both}
-use Rattle.refusal.specs.declared.Answer.{Answer}
-use Rattle.refusal.specs.declared.Answer.TheVariants.{Accepted, Refused}
+use Rattle.refusal.specs.declared.Refusal.{Refusal}
 use Rattle.model.specs.declared.Workout.{Workout}
-use Rattle.order.specs.Order.{played_of, played_len}
+use Rattle.order.specs.Order.{played_of, played_len, played_in}
 use Rattle.validation.specs.Sound.{workout_answer}
 use Rattle.model.specs.declared.Length.{Length}
 use Rattle.state.specs.declared.Lap.{Lap}
@@ -56,9 +56,9 @@ bool_same true false e = sym e
 bool_same false true e = e
 bool_same false false e = refl
 
-accepted-is : (a : Answer) → accepted a ≡ true → a ≡ Accepted
-accepted-is Accepted e = refl
-accepted-is (Refused r) e = let z : ◌≡◌ {A = ℕ} 0 1 = ap (λ (t : Bool). cond t 1 0) e in absurd (omega arith)
+accepted-is : (a : Result ⊤ Refusal) → accepted a ≡ true → a ≡ Ok tt
+accepted-is (Ok tt) e = refl
+accepted-is (Err r) e = let z : ◌≡◌ {A = ℕ} 0 1 = ap (λ (t : Bool). cond t 1 0) e in absurd (omega arith)
 
 module _ (w : Workout) (c : Core) where
   abbrev n : ℕ
@@ -94,9 +94,9 @@ module _ (w : Workout) (c : Core) where
       ∷ readings_ok c.readings ∷ []
 
   abbrev step_here : Bool
-  step_here = same_step c.on (step_now (played_of w (on_place c)).played)
+  step_here = same_step c.on (step_now (played_in (played_of w (on_place c))))
 
-  pub core-known : workout_answer w ≡ Accepted → step_here ≡ true → core_ok n c ≡ true → Stands 0 0 w c
+  pub core-known : workout_answer w ≡ Ok tt → step_here ≡ true → core_ok n c ≡ true → Stands 0 0 w c
   unfolding core_ok
   core-known valid step e =
       let s = c.summary in
@@ -160,11 +160,11 @@ module _ (w : Workout) (c : Core) where
 -- what a standing player is known to keep
 pub record Known (p : Player) : Type 0 where
   pub core : Stands 0 0 p.workout p.core
-  pub note : same_name p.note (played_of p.workout (on_place p.core)).played.step.note ≡ true
+  pub note : same_name p.note (played_in (played_of p.workout (on_place p.core))).step.note ≡ true
 
 module _ (p : Player) where
   abbrev note_here : Bool
-  note_here = same_name p.note (played_of p.workout (on_place p.core)).played.step.note
+  note_here = same_name p.note (played_in (played_of p.workout (on_place p.core))).step.note
 
   pub known : standing_of p ≡ true → Known p
   unfolding standing_of

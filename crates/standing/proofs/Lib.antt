@@ -1,3 +1,4 @@
 pub mod Laws
 pub mod Known
 pub mod Amounts
+pub mod Same

@@ -1,8 +1,7 @@
 -- Standing as facts, of a core whose update is under way: what functions below the calls suppose.
-use Rattle.std.specs.Prelude.{◌≡◌, true, ℕ, ◌+◌, ◌≤◌, ◌<◌, leb}
-use Rattle.refusal.specs.declared.Answer.TheVariants.{Accepted}
+use Rattle.std.specs.Prelude.{◌≡◌, true, ℕ, ◌+◌, ◌≤◌, ◌<◌, leb, Ok}
 use Rattle.model.specs.declared.Workout.{Workout}
-use Rattle.order.specs.Order.{played_of, played_len}
+use Rattle.order.specs.Order.{played_of, played_len, played_in}
 use Rattle.validation.specs.Sound.{workout_answer}
 use Rattle.state.specs.declared.Core.{Core}
 use Rattle.state.specs.State.{SmallEnergy, step_now}
@@ -11,7 +10,7 @@ use Rattle.standing.specs.Standing.{same_step, on_place, lap_ok, cadence_in}
 -- What a core whose update is under way is known to keep: all of standing, but for the last x ms and y mm of its totals, which are
 -- still to be ridden, and but for the amounts of the step on now.
 pub record Within (x y : ℕ) (w : Workout) (c : Core) : Type 0 where
-  pub valid : workout_answer w ≡ Accepted
+  pub valid : workout_answer w ≡ Ok tt
   pub steps : c.steps ≡ played_len w
   pub summary_steps : c.summary.steps ≡ played_len w
   pub steps-done : c.summary.steps_done ≡ c.position
@@ -19,7 +18,7 @@ pub record Within (x y : ℕ) (w : Workout) (c : Core) : Type 0 where
   pub position : c.position ≤ played_len w
   pub done : c.done ≡ leb (played_len w) c.position
   pub finished : c.summary.finished ≡ c.done
-  pub step : same_step c.on (step_now (played_of w (on_place c)).played) ≡ true
+  pub step : same_step c.on (step_now (played_in (played_of w (on_place c)))) ≡ true
   pub tallies : c.summary.in_ms + c.summary.under_ms + c.summary.over_ms ≡ c.summary.targeted_ms
   pub targeted : c.summary.targeted_ms + c.summary.unread_ms + x ≤ c.total_ms.0
   pub step-ms : c.lap.step_ms + x ≤ c.total_ms.0

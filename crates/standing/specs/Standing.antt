@@ -1,18 +1,15 @@
 -- Document 01's question 20, 'Standing': "Player handed in standing?"
-use Rattle.std.specs.Prelude.{Bool, true, false, cond, not, ◌&&◌, List, ℕ, ◌+◌, ◌-◌, ◌*◌, ltb, leb, eqb, get_or}
+use Rattle.std.specs.Prelude.{Bool, true, false, cond, not, ◌&&◌, List, ℕ, ◌+◌, ◌-◌, ◌*◌, ltb, leb, eqb, get_or, Err, None, Ok, Option, Result, Some, ⊤}
 use Rattle.common.specs.Lists.{all_at}
-use Rattle.refusal.specs.declared.Answer.{Answer}
-use Rattle.refusal.specs.declared.Answer.TheVariants.{Accepted, Refused}
+use Rattle.refusal.specs.declared.Refusal.{Refusal}
 use Rattle.names.specs.declared.Name.{Name}
 use Rattle.model.specs.declared.Length.{Length}
 use Rattle.model.specs.declared.Length.TheVariants.{Time, Distance, Open}
 use Rattle.model.specs.declared.Target.{Target}
 use Rattle.order.specs.declared.Played.{Played}
-use Rattle.order.specs.Order.{played_of, played_len}
+use Rattle.order.specs.Order.{played_of, played_len, played_in}
 use Rattle.validation.specs.Sound.{workout_answer}
 use Rattle.steps.specs.Bytes.{intensity_kind, length_kind, length_value, target_kind, first_value, second_value, third_value}
-use Rattle.power.specs.declared.ReadingOption.{ReadingOption}
-use Rattle.power.specs.declared.ReadingOption.TheVariants.{None, Some}
 use Rattle.readings.specs.declared.Readings.{Readings}
 use Rattle.state.specs.declared.Lap.{Lap}
 use Rattle.state.specs.declared.Summary.{Summary}
@@ -22,9 +19,9 @@ use Rattle.state.specs.declared.Core.{Core}
 use Rattle.state.specs.declared.Player.{Player}
 use Rattle.state.specs.State.{duration_ms, distance_mm, step_now}
 
-abbrev pub accepted : Answer → Bool
-accepted Accepted = true
-accepted (Refused refusal) = false
+abbrev pub accepted : Result ⊤ Refusal → Bool
+accepted (Ok tt) = true
+accepted (Err refusal) = false
 
 abbrev pub same : Bool → Bool → Bool
 same a b = cond a b (not b)
@@ -98,7 +95,7 @@ measured_ok m total =
     && ltb m.ring.minute_at 60 && leb m.ring.minute_len 60)
 
 -- "Reading: cadence at most 65,530 tenths? 11."
-abbrev pub cadence_in : ReadingOption → Bool
+abbrev pub cadence_in : Option ℕ → Bool
 cadence_in None = true
 cadence_in (Some tenths) = leb tenths 65530
 
@@ -116,4 +113,4 @@ core_ok steps c =
 unfoldable pub standing_of : Player → Bool
 standing_of p =
     accepted (workout_answer p.workout) && (core_ok (played_len p.workout) p.core
-    && step_is p.core.on p.note (played_of p.workout (on_place p.core)).played)
+    && step_is p.core.on p.note (played_in (played_of p.workout (on_place p.core))))

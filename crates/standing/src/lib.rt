@@ -3,84 +3,13 @@
 #![tactic(auto)]
 
 ghost use Rattle.std.specs.Prelude.{◌≡◌, cond, ◌≤◌, length};
-ghost use Rattle.standing.specs.Standing.{accepted, same, same_length, same_target, same_step, same_name, same_bytes, byte_same, on_place, counts_ok, fresh, below_end, lap_ok, totals_ok, tallies_ok, measured_ok, cadence_in, readings_ok, core_ok, step_is, standing_of};
+ghost use Rattle.standing.specs.Standing.{on_place, counts_ok, fresh, below_end, lap_ok, totals_ok, tallies_ok, measured_ok, cadence_in, readings_ok, core_ok, step_is, standing_of};
 
-use model::{Intensity, Length, Target, Workout};
+use model::Length;
 use names::Name;
-use order::{Played, played_at, played_len};
-use power::ReadingOption;
+use order::{NO_PLAYED, Played, played_at, played_len};
 use readings::Readings;
-use refusal::Answer;
 use state::{Core, Lap, Measured, Player, StepNow, Summary, step_now};
-use step_writer::{intensity_kind, length_kind, length_value, values_of};
-
-fn is_accepted(answer: Answer) -> bool
-    ensures { result ≡ accepted answer }
-{
-    match answer {
-        Answer::Accepted => true,
-        Answer::Refused(_) => false,
-    }
-}
-
-fn same_bool(a: bool, b: bool) -> bool
-    ensures { result ≡ same a b }
-{
-    if a { b } else { !b }
-}
-
-// Values of an enum are compared by their numbers in the workout file.
-
-fn same_length(a: Length, b: Length) -> bool
-    ensures { result ≡ same_length a b }
-{
-    (length_kind(a) == length_kind(b)) & (length_value(a) == length_value(b))
-}
-
-fn same_target(a: Target, b: Target) -> bool
-    ensures { result ≡ same_target a b }
-{
-    let x = values_of(a);
-    let y = values_of(b);
-    (x.kind == y.kind) & (x.a == y.a) & (x.b == y.b) & (x.c == y.c)
-}
-
-fn same_step(a: StepNow, b: StepNow) -> bool
-    ensures { result ≡ same_step a b }
-{
-    let a_length = a.length;
-    let b_length = b.length;
-    let a_target = a.target;
-    let b_target = b.target;
-    let a_intensity = a.intensity;
-    let b_intensity = b.intensity;
-    same_length(a_length, b_length)
-        & same_target(a_target, b_target)
-        & (intensity_kind(a_intensity) == intensity_kind(b_intensity))
-        & (a.index == b.index)
-        & (a.repetition == b.repetition)
-        & (a.of == b.of)
-}
-
-fn same_bytes(a: [u8; 20], b: [u8; 20]) -> bool
-    ensures { result ≡ same_bytes a b }
-{
-    let mut ok = true;
-    let mut i: usize = 0;
-    while i < 20 {
-        ok = ok & (a[i] == b[i]);
-        i += 1;
-    }
-    ok
-}
-
-fn same_name(a: Name, b: Name) -> bool
-    ensures { result ≡ same_name a b }
-{
-    let a_bytes = a.bytes;
-    let b_bytes = b.bytes;
-    (a.len == b.len) & same_bytes(a_bytes, b_bytes)
-}
 
 // The position of the step on now: the player's, or, done, the last step's.
 fn on_place(core: Core) -> usize
@@ -105,8 +34,8 @@ fn counts_ok(core: Core, steps: usize) -> bool
         & ((summary.steps_done as usize) == position)
         & ((summary.skipped as usize) <= position)
         & (position <= steps)
-        & same_bool(core.done, steps <= position)
-        & same_bool(summary.finished, core.done)
+        & (core.done == (steps <= position))
+        & (summary.finished == core.done)
 }
 
 fn is_fresh(lap: Lap) -> bool
@@ -189,12 +118,12 @@ fn measured_ok(measured: Measured, total_ms: u64) -> bool
 }
 
 // Question 11 of a reading: a cadence of at most 65,530 tenths.
-pub fn cadence_in(cadence: ReadingOption) -> bool
+pub fn cadence_in(cadence: Option<u16>) -> bool
     ensures { result ≡ cadence_in cadence }
 {
     match cadence {
-        ReadingOption::None => true,
-        ReadingOption::Some(tenths) => tenths <= 65530,
+        None => true,
+        Some(tenths) => tenths <= 65530,
     }
 }
 
@@ -234,12 +163,11 @@ fn core_ok(core: Core, steps: usize) -> bool
 fn step_is(on: StepNow, note: Name, played: Played) -> bool
     ensures { result ≡ step_is on note played }
 {
-    let step = played.step;
-    let its_note = step.note;
-    same_step(on, step_now(played)) & same_name(note, its_note)
+    (on == step_now(played)) & (note == played.step.note)
 }
 
 // Question 20.
+#[tactic(auto, unfolding(crate::specs::Standing::standing_of))]
 pub fn is_standing(player: Player) -> bool
     ensures { result ≡ standing_of player }
 {
@@ -247,13 +175,12 @@ pub fn is_standing(player: Player) -> bool
     let workout = player.workout;
     let note = player.note;
     let on = core.on;
-    if !is_accepted(validation::check(workout)) {
+    if validation::check(workout).is_err() {
         return false;
     }
     if !core_ok(core, played_len(workout)) {
         return false;
     }
-    let found = played_at(workout, on_place(core));
-    let played = found.played;
+    let played = played_at(workout, on_place(core)).unwrap_or(NO_PLAYED);
     step_is(on, note, played)
 }

@@ -1,13 +1,11 @@
 -- player.rs, `new`: a fresh player.
-use Rattle.std.specs.Prelude.{false, ℕ, replicate}
-use Rattle.refusal.specs.declared.Answer.{Answer}
-use Rattle.refusal.specs.declared.Answer.TheVariants.{Accepted, Refused}
+use Rattle.std.specs.Prelude.{false, ℕ, replicate, Err, None, Ok, Result, ⊤}
+use Rattle.refusal.specs.declared.Refusal.{Refusal}
 use Rattle.model.specs.declared.Workout.{Workout}
 use Rattle.model.specs.Workout.{empty_workout}
 use Rattle.order.specs.declared.Played.{Played}
-use Rattle.order.specs.Order.{played_of, played_len}
+use Rattle.order.specs.Order.{played_of, played_len, played_in}
 use Rattle.validation.specs.Sound.{workout_answer}
-use Rattle.power.specs.declared.ReadingOption.TheVariants.{None}
 use Rattle.readings.specs.Readings.{no_readings}
 use Rattle.state.specs.declared.Summary.{Summary}
 use Rattle.state.specs.declared.Core.{Core}
@@ -51,12 +49,12 @@ abbrev pub fresh_at : Workout → Played → Player
 fresh_at w first = record { core = fresh_core (played_len w) first; workout = w; note = first.step.note; minute = replicate 60 0 }
 
 unfoldable pub fresh : Workout → Player
-fresh w = fresh_at w (played_of w 0).played
+fresh w = fresh_at w (played_in (played_of w 0))
 
 -- "`new` asks 5 to 9. A refused reader gives the empty workout .., a refused `new` a player of it, which doesn't stand."
-abbrev pub new_by : Workout → Answer → NewPlayer
-new_by w Accepted = record { answer = Accepted; player = fresh w }
-new_by w (Refused refusal) = record { answer = Refused refusal; player = fresh empty_workout }
+abbrev pub new_by : Workout → Result ⊤ Refusal → NewPlayer
+new_by w (Ok tt) = record { answer = (Ok tt); player = fresh w }
+new_by w (Err refusal) = record { answer = Err refusal; player = fresh empty_workout }
 
 unfoldable pub new_of : Workout → NewPlayer
 new_of w = new_by w (workout_answer w)

@@ -6,16 +6,16 @@ ghost use Rattle.order.specs.Order.{played_len};
 ghost use Rattle.start.specs.Start.{no_summary, fresh_core, fresh, new_of};
 
 use model::{Workout, empty_workout};
-use order::{Played, played_at, played_len};
-use power::ReadingOption;
+use order::{NO_PLAYED, Played, played_at, played_len};
 use readings::no_readings;
-use refusal::Answer;
+use refusal::Refusal;
 use state::{Core, Lap, Mm, Ms, Player, Summary, fresh_measured, step_now};
 use validation::check;
 
+// A struct and no `Result`: document 01 has a refused `new` give a player of the empty workout (`new_of`).
 #[derive(Clone, Copy, Drop)]
 pub struct NewPlayer {
-    pub answer: Answer,
+    pub answer: Result<(), Refusal>,
     pub player: Player,
 }
 
@@ -28,7 +28,7 @@ pub fn no_summary(steps: u16) -> Summary
         under_ms: 0,
         over_ms: 0,
         unread_ms: 0,
-        ftp: ReadingOption::None,
+        ftp: None,
         steps_done: 0,
         steps,
         skipped: 0,
@@ -63,8 +63,7 @@ fn fresh_player(workout: Workout) -> Player
     requires { played_len workout ≤ 96 }
     ensures { result ≡ fresh workout }
 {
-    let shown = played_at(workout, 0);
-    let first = shown.played;
+    let first = played_at(workout, 0).unwrap_or(NO_PLAYED);
     let step = first.step;
     let note = step.note;
     Player {
@@ -81,12 +80,12 @@ pub fn new(workout: Workout) -> NewPlayer
 {
     let answer = check(workout);
     match answer {
-        Answer::Accepted => NewPlayer {
-            answer: Answer::Accepted,
+        Ok(()) => NewPlayer {
+            answer: Ok(()),
             player: fresh_player(workout),
         },
-        Answer::Refused(refusal) => NewPlayer {
-            answer: Answer::Refused(refusal),
+        Err(refusal) => NewPlayer {
+            answer: Err(refusal),
             player: fresh_player(empty_workout()),
         },
     }

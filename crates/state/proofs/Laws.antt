@@ -1,4 +1,4 @@
--- Laws of shares and percentages.
+-- Laws of shares.
 use Prim.Native.Nat.{ℕ, ◌+◌, ◌-◌, ◌*◌, ◌/◌, ◌≤◌, ◌<◌}
 use native.Mathlib.Nat.{mul-le-mul_left, mul_comm, le_of_lt, div-le_of_le-mul, div-lt_iff_lt-mul, add-mul}
 use native.Mathlib.Omega.{arith}
@@ -12,10 +12,4 @@ pub share_up : (a b n : ℕ) → a < n → (b * a + (n - 1)) / n ≤ b
 share_up a b n h =
     let x : (b * a + (n - 1)) / n < b + 1 =
     (div-lt_iff_lt-mul {k = n} {x = b * a + (n - 1)} {y = b + 1} (omega arith)).1 (omega (arith, mul-le-mul_left b (le_of_lt h), add-mul b 1 n)) in
-    omega arith
-
--- a part is at most 100 % of the whole
-pub at-most-all : (a n : ℕ) → 0 < n → a ≤ n → (a * 100 + n / 2) / n ≤ 100
-at-most-all a n p h =
-    let x : (a * 100 + n / 2) / n < 101 = (div-lt_iff_lt-mul {k = n} {x = a * 100 + n / 2} {y = 101} p).1 (omega arith) in
     omega arith

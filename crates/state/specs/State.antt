@@ -1,17 +1,14 @@
 -- player.rs's state: its summary, the step on now, and what an update's part is.
-use Rattle.std.specs.Prelude.{Bool, cond, ◌&&◌, ◌||◌, ℕ, ◌+◌, ◌-◌, ◌*◌, ◌/◌, ◌≤◌, min, ltb, leb, eqb}
+use Rattle.std.specs.Prelude.{Bool, cond, ◌&&◌, ◌||◌, ℕ, ◌+◌, ◌-◌, ◌*◌, ◌/◌, ◌≤◌, min, ltb, leb, eqb, None, Option, Some}
 use Rattle.model.specs.declared.Length.{Length}
 use Rattle.model.specs.declared.Length.TheVariants.{Time, Distance, Open}
 use Rattle.order.specs.declared.Played.{Played}
-use Rattle.power.specs.declared.ReadingOption.TheVariants as reading
 use Rattle.readings.specs.declared.Sample.{Sample}
 use Rattle.readings.specs.declared.Compliance.TheVariants.{Under, In, Over}
 use Rattle.readings.specs.declared.ComplianceOption.{ComplianceOption}
 use Rattle.readings.specs.declared.ComplianceOption.TheVariants.{NoBand, NoReading}
 use Rattle.readings.specs.declared.ComplianceOption.TheVariants as how
 use Rattle.readings.specs.Readings.{taken}
-use Rattle.state.specs.declared.PctOption.{PctOption}
-use Rattle.state.specs.declared.PctOption.TheVariants.{None, Some}
 use Rattle.state.specs.declared.Part.{Part}
 use Rattle.state.specs.declared.Summary.{Summary}
 use Rattle.state.specs.declared.Lap.{Lap}
@@ -22,7 +19,7 @@ use Rattle.state.specs.declared.Core.{Core}
 -- The summary.
 
 -- "`in_target_pct` also has no value where in exceeds targeted or targeted exceeds 4,294,967,295"
-unfoldable pub in_target_pct : Summary → PctOption
+unfoldable pub in_target_pct : Summary → Option ℕ
 in_target_pct s =
     cond (eqb s.targeted_ms 0 || ltb s.targeted_ms s.in_ms || ltb 4294967295 s.targeted_ms) None
     (Some ((s.in_ms * 100 + s.targeted_ms / 2) / s.targeted_ms))
@@ -86,7 +83,7 @@ fresh_measured low =
       test_ms = 0;
       minute_rest_ms = 0;
       ramp_low_ms = low;
-      ring = record { best_minute = reading.None; minute_at = 0; minute_len = 0 };
+      ring = record { best_minute = None; minute_at = 0; minute_len = 0 };
     }
 
 -- "`test_mj` ≤ 65,535 × `test_ms`": the energy is a sum of 16-bit readings.

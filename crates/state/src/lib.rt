@@ -3,13 +3,12 @@
 // The workout and the minute's watts stand apart in `Player`, so that what a round of riding changes is small (`Core`).
 #![tactic(auto)]
 
-ghost use Rattle.std.specs.Prelude.{◌≡◌, ◌+◌, ◌-◌, ◌*◌, ◌≤◌, min};
+ghost use Rattle.std.specs.Prelude.{◌≡◌, ◌+◌, ◌-◌, ◌*◌, ◌≤◌};
 ghost use Rattle.state.specs.State.{in_target_pct, duration_ms, distance_m, distance_mm, time_share, way_share, share_of, until_end, tallied, TallyFits, event_places, read_core, fresh_measured, extended_lap, step_now};
 
 use model::{Intensity, Length, Target, Workout};
 use names::Name;
 use order::Played;
-use power::ReadingOption;
 use readings::{Compliance, ComplianceOption, Readings, Sample};
 
 // A time in milliseconds and a way in millimetres, which never stand in each other's place.
@@ -26,13 +25,6 @@ pub struct Part {
     pub mm: Mm,
 }
 
-// A whole percentage, if there is one.
-#[derive(Clone, Copy, Drop)]
-pub enum PctOption {
-    None,
-    Some(u8),
-}
-
 // How the whole workout went so far, for the ride summary.
 #[derive(Clone, Copy, Drop)]
 pub struct Summary {
@@ -44,7 +36,7 @@ pub struct Summary {
     pub under_ms: u64,
     pub over_ms: u64,
     // What a test measured, saved or not.
-    pub ftp: ReadingOption,
+    pub ftp: Option<u16>,
     // Played steps finished, skipped ones included.
     pub steps_done: u16,
     pub steps: u16,
@@ -64,7 +56,7 @@ pub struct Lap {
 // The ramp's last minute of watts, but for the watts: the best full minute, the next place and how many places are filled.
 #[derive(Clone, Copy, Drop)]
 pub struct Ring {
-    pub best_minute: ReadingOption,
+    pub best_minute: Option<u16>,
     pub minute_at: u8,
     pub minute_len: u8,
 }
@@ -83,7 +75,7 @@ pub struct Measured {
 }
 
 // player.rs's `played`, the step on now, but for its note.
-#[derive(Clone, Copy, Drop)]
+#[derive(Clone, Copy, Drop, PartialEq, Eq)]
 pub struct StepNow {
     pub length: Length,
     pub target: Target,
@@ -120,77 +112,44 @@ pub struct Player {
 
 impl Summary {
     // Share of targeted time on target, in whole percent.
-    pub fn in_target_pct(self) -> PctOption
+    #[tactic(auto, unfolding(crate::specs::State::in_target_pct))]
+    pub fn in_target_pct(self) -> Option<u8>
         ensures { result ≡ in_target_pct self }
     {
         let targeted = self.targeted_ms;
         let inside = self.in_ms;
         if targeted == 0 {
-            return PctOption::None;
+            return None;
         }
         if targeted < inside {
-            return PctOption::None;
+            return None;
         }
         if 4294967295 < targeted {
-            return PctOption::None;
+            return None;
         }
-        PctOption::Some(((inside * 100 + targeted / 2) / targeted) as u8)
+        Some(((inside * 100 + targeted / 2) / targeted) as u8)
     }
 
     // `ms` of riding with this compliance: targeted, unread where the band has no reading, and neither without a band.
+    #[tactic(auto, unfolding(crate::specs::State::tallied))]
     pub fn tally(self, compliance: ComplianceOption, ms: u64) -> Summary
         requires { TallyFits self ms }
         ensures { result ≡ tallied compliance ms self }
     {
         let mut q = self;
         match compliance {
-            ComplianceOption::NoBand => q,
-            ComplianceOption::NoReading => {
-                q.unread_ms = q.unread_ms + ms;
-                q
-            }
+            ComplianceOption::NoBand => {}
+            ComplianceOption::NoReading => q.unread_ms += ms,
             ComplianceOption::Some(how) => {
-                q.targeted_ms = q.targeted_ms + ms;
+                q.targeted_ms += ms;
                 match how {
-                    Compliance::Under => {
-                        q.under_ms = q.under_ms + ms;
-                        q
-                    }
-                    Compliance::In => {
-                        q.in_ms = q.in_ms + ms;
-                        q
-                    }
-                    Compliance::Over => {
-                        q.over_ms = q.over_ms + ms;
-                        q
-                    }
+                    Compliance::Under => q.under_ms += ms,
+                    Compliance::In => q.in_ms += ms,
+                    Compliance::Over => q.over_ms += ms,
                 }
             }
         }
-    }
-}
-
-// `a` - `b`, or 0.
-pub fn less(a: u64, b: u64) -> u64
-    ensures { result ≡ a - b }
-{
-    if b < a { a - b } else { 0 }
-}
-
-// The last of `n` places, from 0 on; 0 where there is none.
-pub fn last_of(n: usize) -> usize
-    ensures { result ≡ n - 1 }
-{
-    if n == 0 { 0 } else { n - 1 }
-}
-
-fn topped(metres: u64) -> u64
-    ensures { result ≡ min metres 4294967295 }
-{
-    if metres < 4294967295 {
-        metres
-    } else {
-        4294967295
+        q
     }
 }
 
@@ -206,7 +165,7 @@ impl Lap {
     pub fn distance_m(self, metres: u32) -> u64
         ensures { (result ≡ distance_m metres self) × (result ≤ 4294967295) }
     {
-        topped((metres as u64) + (self.extra_m as u64))
+        ((metres as u64) + (self.extra_m as u64)).min(4294967295)
     }
 
     pub fn distance_mm(self, metres: u32) -> u64
@@ -221,8 +180,8 @@ impl Lap {
         ensures { result ≡ extended_lap extra_s extra_m self }
     {
         let mut q = self;
-        q.extra_s = q.extra_s + extra_s;
-        q.extra_m = q.extra_m + extra_m;
+        q.extra_s += extra_s;
+        q.extra_m += extra_m;
         q
     }
 }
@@ -237,7 +196,7 @@ pub fn fresh_measured(ramp_low_ms: u64) -> Measured
         minute_rest_ms: 0,
         ramp_low_ms,
         ring: Ring {
-            best_minute: ReadingOption::None,
+            best_minute: None,
             minute_at: 0,
             minute_len: 0,
         },
@@ -278,13 +237,20 @@ fn way_share(left: u64, ms: u64, mm: u64) -> Part
     }
 }
 
+#[tactic(auto, unfolding(crate::specs::State::share_of))]
 fn share(length: Length, lap: Lap, ms: u64, mm: u64) -> Part
     requires { (ms ≤ 86400000) × (mm ≤ 1000000000) }
     ensures { result ≡ share_of length lap ms mm }
 {
     match length {
-        Length::Time(secs) => time_share(less(lap.duration_ms(secs), lap.step_ms), ms, mm),
-        Length::Distance(metres) => way_share(less(lap.distance_mm(metres), lap.step_mm), ms, mm),
+        Length::Time(secs) => {
+            let left = lap.duration_ms(secs).saturating_sub(lap.step_ms);
+            time_share(left, ms, mm)
+        }
+        Length::Distance(metres) => {
+            let left = lap.distance_mm(metres).saturating_sub(lap.step_mm);
+            way_share(left, ms, mm)
+        }
         Length::Open => Part {
             ms: Ms(ms),
             mm: Mm(mm),
@@ -294,6 +260,7 @@ fn share(length: Length, lap: Lap, ms: u64, mm: u64) -> Part
 
 impl Core {
     // The part of `ms` over `mm` that the step on now still holds; all of it once the workout is done.
+    #[tactic(auto, unfolding(crate::specs::State::until_end))]
     pub fn until_end(self, ms: Ms, mm: Mm) -> Part
         requires { (ms.0 ≤ 86400000) × (mm.0 ≤ 1000000000) }
         ensures { result ≡ until_end self ms.0 mm.0 }
@@ -301,10 +268,7 @@ impl Core {
         if self.done {
             return Part { ms, mm };
         }
-        let on = self.on;
-        let length = on.length;
-        let lap = self.lap;
-        share(length, lap, ms.0, mm.0)
+        share(self.on.length, self.lap, ms.0, mm.0)
     }
 
     // The places that the next update wants in each of its event arrays: two for each step that hasn't ended and one more, none once
@@ -316,20 +280,16 @@ impl Core {
         if self.done {
             return 0;
         }
-        if self.position < self.steps {
-            return 2 * (self.steps - self.position) + 1;
-        }
-        1
+        2 * self.steps.saturating_sub(self.position) + 1
     }
 
     // Take `sample`'s readings, once per update.
+    #[tactic(auto, unfolding(crate::specs::State::read_core))]
     pub fn read(self, sample: Sample) -> Core
         ensures { result ≡ read_core sample self }
     {
         let mut q = self;
-        let readings = q.readings;
-        let taken = readings.read(sample);
-        q.readings = taken;
+        q.readings = q.readings.read(sample);
         q
     }
 }
@@ -338,14 +298,10 @@ impl Core {
 pub fn step_now(played: Played) -> StepNow
     ensures { result ≡ step_now played }
 {
-    let step = played.step;
-    let length = step.length;
-    let target = step.target;
-    let intensity = step.intensity;
     StepNow {
-        length,
-        target,
-        intensity,
+        length: played.step.length,
+        target: played.step.target,
+        intensity: played.step.intensity,
         index: played.index,
         repetition: played.repetition,
         of: played.of,

@@ -1,15 +1,14 @@
 -- player.rs: a step's last seconds, its end, and the step after it.
-use Rattle.std.specs.Prelude.{◌≡◌, Bool, cond, not, ◌&&◌, List, [], ◌∷◌, ◌++◌, ℕ, ◌+◌, ◌-◌, ◌*◌, ◌≤◌, ltb, leb}
+use Rattle.std.specs.Prelude.{◌≡◌, Bool, cond, not, ◌&&◌, List, [], ◌∷◌, ◌++◌, ℕ, ◌+◌, ◌-◌, ◌*◌, ◌≤◌, ltb, leb, Option, is_some}
+use Rattle.std.specs.Option.{option_or}
 use Rattle.zones.specs.declared.TrainingProfile.{TrainingProfile}
 use Rattle.model.specs.declared.Length.{Length}
 use Rattle.model.specs.declared.Length.TheVariants.{Time, Distance, Open}
 use Rattle.model.specs.declared.Workout.{Workout}
 use Rattle.model.specs.Target.{ramp_option}
-use Rattle.order.specs.declared.PlayedOption.{PlayedOption}
-use Rattle.order.specs.Order.{played_of}
-use Rattle.power.specs.declared.ReadingOption.{ReadingOption}
-use Rattle.power.specs.declared.ReadingOption.TheVariants.{None, Some}
-use Rattle.power.specs.Power.{or_zero, is_some}
+use Rattle.order.specs.declared.Played.{Played}
+use Rattle.order.specs.Order.{played_of, played_in}
+use Rattle.power.specs.Power.{or_zero}
 use Rattle.events.specs.Events.{Event, countdown, started, finished, ftp, events_if, Wrote}
 use Rattle.state.specs.declared.Summary.{Summary}
 use Rattle.state.specs.declared.Lap.{Lap}
@@ -54,15 +53,14 @@ is_over p c = over_by c.on.length p c
 -- The end of a step.
 
 -- What was measured now, or before.
-abbrev pub or_else : ReadingOption → ReadingOption → ReadingOption
-or_else None before = before
-or_else (Some watts) before = Some watts
+abbrev pub or_else : Option ℕ → Option ℕ → Option ℕ
+or_else ftp before = option_or ftp before
 
-abbrev pub step_after : PlayedOption → StepNow → StepNow
-step_after found on = cond found.found (step_now found.played) on
+abbrev pub step_after : Option Played → StepNow → StepNow
+step_after found on = cond (is_some found) (step_now (played_in found)) on
 
 -- "done + 1, skipped + 1 if marked", "in a `Test` step the result, if any, is kept"
-abbrev pub ended_summary : Bool → Bool → ReadingOption → Summary → Summary
+abbrev pub ended_summary : Bool → Bool → Option ℕ → Summary → Summary
 ended_summary last skipped result s =
     record {
       targeted_ms = s.targeted_ms;
@@ -79,11 +77,11 @@ ended_summary last skipped result s =
 
 -- "A test stands on its own step." (document 02, d; sums and ring "run on across steps" in document 01, now `ramp_low_ms` alone.) At the
 -- finish no step starts, and what was measured stays.
-abbrev pub measured_after : PlayedOption → Measured → Measured
-measured_after found m = cond found.found (fresh_measured m.ramp_low_ms) m
+abbrev pub measured_after : Option Played → Measured → Measured
+measured_after found m = cond (is_some found) (fresh_measured m.ramp_low_ms) m
 
 -- The core after a step's end, with what was found at the next position.
-unfoldable pub arrived : PlayedOption → Bool → ReadingOption → Core → Core
+unfoldable pub arrived : Option Played → Bool → Option ℕ → Core → Core
 arrived found skipped result c =
     record {
       position = c.position + 1;
@@ -92,25 +90,25 @@ arrived found skipped result c =
       total_mm = c.total_mm;
       lap = fresh_lap;
       measured = measured_after found c.measured;
-      summary = ended_summary (not found.found) skipped result c.summary;
+      summary = ended_summary (not (is_some found)) skipped result c.summary;
       on = step_after found c.on;
       readings = c.readings;
-      done = not found.found;
+      done = not (is_some found);
     }
 
 -- "the result, if any, is kept with an FTP event"
-abbrev pub ftp_events : ReadingOption → List Event
+abbrev pub ftp_events : Option ℕ → List Event
 ftp_events result = events_if (is_some result) (ftp (or_zero result))
 
 -- "started with the new position, or finished"
 abbrev pub after_event : Bool → ℕ → Event
 after_event found position = cond found (started position) finished
 
-abbrev pub next_to : PlayedOption → Bool → ReadingOption → Core → Outcome
+abbrev pub next_to : Option Played → Bool → Option ℕ → Core → Outcome
 next_to found skipped result c =
     record {
       core = arrived found skipped result c;
-      events = ftp_events result ++ (after_event found.found (c.position + 1) ∷ []);
+      events = ftp_events result ++ (after_event (is_some found) (c.position + 1) ∷ []);
     }
 
 -- player.rs, `next`: the step on now ends, skipped or not.

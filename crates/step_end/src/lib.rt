@@ -3,14 +3,13 @@
 
 ghost use Rattle.std.specs.Prelude.{◌≡◌, cond, [], ◌∷◌, ◌++◌, ◌+◌, ◌≤◌, length};
 ghost use Rattle.events.specs.Events.{Wrote};
-ghost use Rattle.step_end.specs.StepEnd.{due_at, countdowns_to, countdowns_of, is_over, or_else, step_after, measured_after, arrived, next_of, NextFits, Moves};
+ghost use Rattle.step_end.specs.StepEnd.{due_at, countdowns_to, countdowns_of, is_over, step_after, measured_after, arrived, next_of, NextFits, Moves};
 
 use events::{COUNTDOWN, FINISHED, FTP, STARTED, push, push_if};
 use measure::{ramp_failed, result};
 use model::{Length, Workout};
-use order::{PlayedOption, played_at};
-use power::ReadingOption;
-use state::{Core, Lap, Measured, StepNow, Summary, fresh_measured, less, step_now};
+use order::{Played, played_at};
+use state::{Core, Lap, Measured, StepNow, Summary, fresh_measured, step_now};
 use zones::TrainingProfile;
 
 // The mark `secs` before the end was passed, and the end was not.
@@ -18,7 +17,7 @@ fn is_due(secs: u64, end: u64, before: u64, after: u64) -> bool
     requires { secs ≤ 3 }
     ensures { result ≡ due_at secs end before after }
 {
-    let at = less(end, secs * 1000);
+    let at = end.saturating_sub(secs * 1000);
     (before < at) & (at <= after) & (after < end)
 }
 
@@ -108,39 +107,29 @@ fn bit(skipped: bool) -> u16
     if skipped { 1 } else { 0 }
 }
 
-// What was measured now, or before.
-fn or_else(ftp: ReadingOption, before: ReadingOption) -> ReadingOption
-    ensures { result ≡ or_else ftp before }
-{
-    match ftp {
-        ReadingOption::None => before,
-        ReadingOption::Some(watts) => ReadingOption::Some(watts),
-    }
-}
-
 // The step looked up next, or the one that was on, which stays after the last.
-fn step_after(found: PlayedOption, on: StepNow) -> StepNow
+fn step_after(found: Option<Played>, on: StepNow) -> StepNow
     ensures { result ≡ step_after found on }
 {
-    if found.found {
-        let played = found.played;
-        return step_now(played);
+    match found {
+        None => on,
+        Some(played) => step_now(played),
     }
-    on
 }
 
 // What the tests have measured as the next step starts; after the last it stays.
-fn measured_after(found: PlayedOption, measured: Measured) -> Measured
+fn measured_after(found: Option<Played>, measured: Measured) -> Measured
     ensures { result ≡ measured_after found measured }
 {
-    if found.found {
+    if found.is_some() {
         return fresh_measured(measured.ramp_low_ms);
     }
     measured
 }
 
 // The end of the step on now, `found` being what comes next and `ftp` what a test measured.
-fn arrive(core: Core, found: PlayedOption, ftp: ReadingOption, skipped: bool) -> Core
+#[tactic(auto, unfolding(crate::specs::StepEnd::arrived))]
+fn arrive(core: Core, found: Option<Played>, ftp: Option<u16>, skipped: bool) -> Core
     requires { NextFits core }
     ensures { result ≡ arrived found skipped ftp core }
 {
@@ -148,7 +137,7 @@ fn arrive(core: Core, found: PlayedOption, ftp: ReadingOption, skipped: bool) ->
     let before = summary.ftp;
     let on = core.on;
     let measured = core.measured;
-    let last = !found.found;
+    let last = found.is_none();
     Core {
         position: core.position + 1,
         lap: Lap {
@@ -159,7 +148,7 @@ fn arrive(core: Core, found: PlayedOption, ftp: ReadingOption, skipped: bool) ->
         },
         measured: measured_after(found, measured),
         summary: Summary {
-            ftp: or_else(ftp, before),
+            ftp: ftp.or(before),
             steps_done: summary.steps_done + 1,
             skipped: summary.skipped + bit(skipped),
             finished: last,
@@ -198,8 +187,8 @@ pub fn next(
     let ftp = result(measured, test, on, lap, skipped);
     let found = played_at(workout, position);
     let moved = arrive(core, found, ftp, skipped);
-    let measured_count = push_if(ftp.is_some(), kinds, values, count, FTP, ftp.or_zero());
-    if found.found {
+    let measured_count = push_if(ftp.is_some(), kinds, values, count, FTP, ftp.unwrap_or(0));
+    if found.is_some() {
         let after = push(kinds, values, measured_count, STARTED, position as u16);
         return Moved {
             core: moved,

@@ -125,11 +125,7 @@ pub fn put_text(out: &mut [u8], at: usize, text: [u8; 20], n: usize)
     requires { (n ≤ 20) × (at + n ≤ length out.old) }
     ensures { out.new ≡ written out.old at (take n text) }
 {
-    let mut i = 0;
-    while i < n {
-        out[at + i] = text[i];
-        i += 1;
-    }
+    out[at..at + n].copy_from_slice(&text[..n]);
 }
 
 // A name: its length and its bytes. The place behind it.

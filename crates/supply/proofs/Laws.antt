@@ -6,7 +6,7 @@ use Prim.Native.Nat.{ℕ, zero, suc, ◌+◌, ◌*◌, ◌/◌, ◌≤◌, ◌<�
 use native.Mathlib.Omega.{arith}
 use native.Mathlib.Nat.{suc-mul, mul-zero}
 use lib.Dec.{leb}
-use lib.ListN.{length, get_or, drop, drop_of_length-le}
+use lib.ListN.{length, get_or}
 use borrow.Author.Tests.{leb-true, leb-false, le-leb, lt-leb}
 use Rattle.common.specs.Lists.{sum}
 use Rattle.supply.specs.Supply.{at_level, level_up_to, level_of, grants_of, Greatest, Shared}
@@ -159,8 +159,3 @@ module _ (wants : List ℕ) (supply : ℕ) where
             let q = quarter-in four in
             omega (arith, at, q);
       }
-
--- all wants have been added
-pub none_left : (level : ℕ) (wants : List ℕ) (i : ℕ) → length wants ≤ i → sum (at_level level (drop i wants)) ≡ 0
-unfolding sum
-none_left level wants i h = rw (drop_of_length-le wants h)

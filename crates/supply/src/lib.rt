@@ -9,26 +9,16 @@ ghost use Rattle.supply.specs.Samples.{SampleShares};
 
 // What a bike gets at a level.
 fn up_to(want: u16, level: usize) -> u16
-    ensures { (result ≡ min want level) × (result ≤ 65535) }
+    ensures { result ≡ min want level }
 {
-    if (want as usize) < level {
-        want
-    } else {
-        level as u16
-    }
+    (want as usize).min(level) as u16
 }
 
 // What the four draw together at a level.
 fn drawn(wants: [u16; 4], level: usize) -> usize
-    ensures { (result ≡ sum (at_level level wants)) × (result ≤ 262140) }
+    ensures { result ≡ sum (at_level level wants) }
 {
-    let mut total: usize = 0;
-    let mut i: usize = 0;
-    while i < 4 {
-        total += up_to(wants[i], level) as usize;
-        i += 1;
-    }
-    total
+    wants.iter().map(|want| up_to(*want, level) as usize).sum()
 }
 
 // The greatest level that the supply bears, up to the supply itself: the gap between one that it bears and one that it doesn't is
@@ -43,7 +33,7 @@ fn level(wants: [u16; 4], supply: usize) -> usize
     let mut low: usize = 0;
     let mut high: usize = supply;
     while 1 < high - low {
-        let middle = (low + high) / 2;
+        let middle = low + (high - low) / 2;
         let total = drawn(wants, middle);
         if total <= supply {
             low = middle;

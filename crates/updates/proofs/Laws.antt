@@ -1,11 +1,11 @@
 -- The calls below the questions, outcome by outcome.
+use Rattle.std.specs.Prelude.{Ok}
 use mathlib.Core.Path.{◌≡◌, refl, sym, ap, subst, ◌∙◌}
 use mathlib.Core.Bool.{Bool, true, false, cond}
 use mathlib.Core.List.{List}
 use Prim.Native.Nat.{ℕ, ◌+◌, ◌-◌, ◌*◌, ◌≤◌}
 use native.Mathlib.Omega.{arith}
 use borrow.Author.Tests.{eq-eqb, ne_eqb}
-use Rattle.refusal.specs.declared.Answer.TheVariants.{Accepted}
 use Rattle.zones.specs.declared.TrainingProfile.{TrainingProfile}
 use Rattle.model.specs.declared.Workout.{Workout}
 use Rattle.order.specs.Order.{played_len}
@@ -70,7 +70,7 @@ start-rides w c ms mm k v s =
     }
 
 module _ (p : Player) (ms mm : ℕ) (f : TrainingProfile) where
-  pub ride-idle : ms ≡ 0 → eventless Accepted p ≡ ride_now p ms mm f
+  pub ride-idle : ms ≡ 0 → eventless (Ok tt) p ≡ ride_now p ms mm f
   unfolding ride_now
   ride-idle e =
       sym (ap (λ (b : Bool). ride_by b p (rounds p.workout f 97 ms mm (riding (totalled ms mm p.core) p.minute))) (eq-eqb ms 0 e))
@@ -83,26 +83,26 @@ module _ (p : Player) (ms mm : ℕ) (f : TrainingProfile) where
   pub ride-made : {m' ks vs ks' vs' : List ℕ} (r : Ride) (q : Player) → (ms ≡ 0 → ⊥)
       → Ridden p.workout f p.minute m' ks vs ks' vs' (begun p.core ms mm) r
       → q ≡ player_of p.workout (riding r.core m')
-      → Answers ks vs ks' vs' (record { answer = Accepted; player = q; events = r.count; parts = r.parts }) (ride_now p ms mm f)
+      → Answers ks vs ks' vs' (record { answer = (Ok tt); player = q; events = r.count; parts = r.parts }) (ride_now p ms mm f)
   ride-made {m' = m'} {ks = ks} {vs = vs} {ks' = ks'} {vs' = vs'} r q e o eq =
-      subst (λ (k : Called). Answers ks vs ks' vs' (record { answer = Accepted; player = q; events = r.count; parts = r.parts }) k) (ride-rode e)
+      subst (λ (k : Called). Answers ks vs ks' vs' (record { answer = (Ok tt); player = q; events = r.count; parts = r.parts }) k) (ride-rode e)
       (record { answer = refl; player = eq ∙ ap (player_of p.workout) o.riding_is; parts = omega (arith, o.parts); wrote = o.wrote })
 
 -- A skip.
 
-pub skip-idle : (p : Player) → p.core.done ≡ true → eventless Accepted p ≡ skip_now p
+pub skip-idle : (p : Player) → p.core.done ≡ true → eventless (Ok tt) p ≡ skip_now p
 unfolding skip_now
-skip-idle p e = sym (ap (λ (b : Bool). cond b (eventless Accepted p) (skip_to p (next_of p.workout true p.core))) e)
+skip-idle p e = sym (ap (λ (b : Bool). cond b (eventless (Ok tt) p) (skip_to p (next_of p.workout true p.core))) e)
 
 skip-moved : (p : Player) → p.core.done ≡ false → skip_to p (next_of p.workout true p.core) ≡ skip_now p
 unfolding skip_now
-skip-moved p e = sym (ap (λ (b : Bool). cond b (eventless Accepted p) (skip_to p (next_of p.workout true p.core))) e)
+skip-moved p e = sym (ap (λ (b : Bool). cond b (eventless (Ok tt) p) (skip_to p (next_of p.workout true p.core))) e)
 
 pub skip-made : {ks vs ks' vs' : List ℕ} (p : Player) (r : Moved) (q : Player) → p.core.done ≡ false
     → Moves ks vs 0 ks' vs' r (next_of p.workout true p.core) → q ≡ player_of p.workout (riding r.core p.minute)
-    → Answers ks vs ks' vs' (record { answer = Accepted; player = q; events = r.count; parts = 0 }) (skip_now p)
+    → Answers ks vs ks' vs' (record { answer = (Ok tt); player = q; events = r.count; parts = 0 }) (skip_now p)
 skip-made {ks} {vs} {ks'} {vs'} p r q d o eq =
-    subst (λ (k : Called). Answers ks vs ks' vs' (record { answer = Accepted; player = q; events = r.count; parts = 0 }) k) (skip-moved p d)
+    subst (λ (k : Called). Answers ks vs ks' vs' (record { answer = (Ok tt); player = q; events = r.count; parts = 0 }) k) (skip-moved p d)
     (record { answer = refl; player = eq ∙ ap (λ (c : Core). player_of p.workout (riding c p.minute)) o.core; parts = refl; wrote = o.wrote })
 
 -- Add.
@@ -157,10 +157,10 @@ read-supposes w c sample ms mm k v s e =
     }
 
 module _ (p : Player) (ms mm : ℕ) (sample : Sample) (f : TrainingProfile) where
-  pub add-idle : ms ≡ 0 → eventless Accepted p ≡ add_now p ms mm sample f
+  pub add-idle : ms ≡ 0 → eventless (Ok tt) p ≡ add_now p ms mm sample f
   unfolding add_now
-  add-idle e = sym (ap (λ (b : Bool). cond b (eventless Accepted p) (ride_now (with_core (read_core sample p.core) p) ms mm f)) (eq-eqb ms 0 e))
+  add-idle e = sym (ap (λ (b : Bool). cond b (eventless (Ok tt) p) (ride_now (with_core (read_core sample p.core) p) ms mm f)) (eq-eqb ms 0 e))
 
   pub add-rode : (ms ≡ 0 → ⊥) → ride_now (with_core (read_core sample p.core) p) ms mm f ≡ add_now p ms mm sample f
   unfolding add_now
-  add-rode e = sym (ap (λ (b : Bool). cond b (eventless Accepted p) (ride_now (with_core (read_core sample p.core) p) ms mm f)) (ne_eqb ms 0 e))
+  add-rode e = sym (ap (λ (b : Bool). cond b (eventless (Ok tt) p) (ride_now (with_core (read_core sample p.core) p) ms mm f)) (ne_eqb ms 0 e))

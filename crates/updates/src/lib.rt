@@ -11,7 +11,6 @@ ghost use Rattle.updates.specs.Updates.{begun, ride_now, skip_now, add_now, Supp
 use model::Workout;
 use outcomes::{Update, add_totals, plain, player_of, with_core};
 use readings::Sample;
-use refusal::Answer;
 use rounds::{Ride, ride_rounds};
 use state::{Core, Mm, Ms, Player};
 use step_end::next;
@@ -54,7 +53,7 @@ pub fn ride_now(
     ensures { Answers kinds.old values.old kinds.new values.new result (ride_now player ms.0 mm.0 profile) }
 {
     if ms.0 == 0 {
-        return plain(player, Answer::Accepted);
+        return plain(player, Ok(()));
     }
     let workout = player.workout;
     let core = player.core;
@@ -63,7 +62,7 @@ pub fn ride_now(
     let after = ride.core;
     let ridden = player_of(workout, after, minute);
     Update {
-        answer: Answer::Accepted,
+        answer: Ok(()),
         player: ridden,
         events: ride.count,
         parts: ride.parts,
@@ -84,7 +83,7 @@ pub fn add_now(
     ensures { Answers kinds.old values.old kinds.new values.new result (add_now player ms.0 mm.0 sample profile) }
 {
     if ms.0 == 0 {
-        return plain(player, Answer::Accepted);
+        return plain(player, Ok(()));
     }
     let core = player.core;
     let taken = with_core(player, core.read(sample));
@@ -98,7 +97,7 @@ pub fn skip_now(player: Player, kinds: &mut [u8], values: &mut [u16]) -> Update
 {
     let core = player.core;
     if core.done {
-        return plain(player, Answer::Accepted);
+        return plain(player, Ok(()));
     }
     let workout = player.workout;
     let minute = player.minute;
@@ -106,7 +105,7 @@ pub fn skip_now(player: Player, kinds: &mut [u8], values: &mut [u16]) -> Update
     let after = moved.core;
     let ended = player_of(workout, after, minute);
     Update {
-        answer: Answer::Accepted,
+        answer: Ok(()),
         player: ended,
         events: moved.count,
         parts: 0,

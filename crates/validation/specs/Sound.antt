@@ -1,14 +1,13 @@
 -- Document 01's questions 6 to 9, which are model.rs's `validate`.
-use Rattle.std.specs.Prelude.{Bool, true, cond, ◌&&◌, List, ℕ, ltb, leb, length}
+use Rattle.std.specs.Prelude.{Bool, true, ◌&&◌, List, ℕ, ltb, leb, length, Ok, Result, ⊤}
 use Rattle.common.specs.Lists.{all}
 use Rattle.form.specs.Form.{is_open, form_ok}
 use Rattle.blocks.specs.Blocks.{blocks_sound}
 use Rattle.order.specs.Order.{played_len}
-use Rattle.refusal.specs.declared.Answer.{Answer}
-use Rattle.refusal.specs.declared.Answer.TheVariants.{Accepted}
 use Rattle.refusal.specs.declared.Invalid.TheVariants as invalids
 use Rattle.refusal.specs.declared.Refusal.TheVariants as refusals
 use Rattle.refusal.specs.Number.{ask}
+use Rattle.refusal.specs.declared.Refusal.{Refusal}
 use Rattle.model.specs.declared.Step.{Step}
 use Rattle.model.specs.declared.Workout.{Workout}
 use Rattle.model.specs.declared.Length.{Length}
@@ -46,18 +45,14 @@ step_ok s = length_ok s.length && target_ok s.target (is_open s.length)
 abbrev pub steps_sound : List Step → Bool
 steps_sound steps = all step_ok steps
 
--- One place of the steps, as the loop asks it.
-abbrev pub sound_at : ℕ → ℕ → Step → Bool
-sound_at count at s = cond (ltb at count) (step_ok s) true
-
 -- "Then `validate`: a step? 6. Blocks sound? 7. Steps sound? 8. At most 96 played? 9."
-unfoldable pub valid_answer : Workout → Answer
+unfoldable pub valid_answer : Workout → Result ⊤ Refusal
 valid_answer w =
     ask (ltb 0 w.step_count) (refusals.Invalid invalids.NoSteps)
     (ask (blocks_sound (length (steps_of w)) (blocks_of w)) (refusals.Invalid invalids.Block)
     (ask (steps_sound (steps_of w)) (refusals.Invalid invalids.Step)
-    (ask (leb (played_len w) 96) (refusals.Invalid invalids.TooLong) Accepted)))
+    (ask (leb (played_len w) 96) (refusals.Invalid invalids.TooLong) (Ok tt))))
 
 -- "`new` asks 5 to 9."
-unfoldable pub workout_answer : Workout → Answer
+unfoldable pub workout_answer : Workout → Result ⊤ Refusal
 workout_answer w = ask (form_ok w) refusals.Field (valid_answer w)

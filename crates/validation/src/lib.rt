@@ -2,14 +2,13 @@
 #![tactic(auto)]
 
 ghost use Rattle.std.specs.Prelude.{◌≡◌, take};
-ghost use Rattle.validation.specs.Sound.{length_ok, within, target_ok, step_ok, sound_at, steps_sound, valid_answer, workout_answer};
+ghost use Rattle.validation.specs.Sound.{length_ok, within, target_ok, step_ok, steps_sound, valid_answer, workout_answer};
 
 use blocks::blocks_sound;
-use common::least;
 use form::{is_open, well_formed};
 use model::{Length, MAX_PLAYED, MIN_DISTANCE_M, Step, Target, Workout};
 use order::played_len;
-use refusal::{Answer, Invalid, Refusal};
+use refusal::{Invalid, Refusal};
 
 // Question 8: a step that ends, and a target in range.
 
@@ -50,68 +49,52 @@ fn target_ok(target: Target, untimed: bool) -> bool
 fn step_ok(step: Step) -> bool
     ensures { result ≡ step_ok step }
 {
-    let length = step.length;
-    let target = step.target;
-    length_ok(length) & target_ok(target, is_open(length))
+    length_ok(step.length) & target_ok(step.target, is_open(step.length))
 }
 
-// The step at a place is sound, or its place is not used.
-fn sound_at(count: u8, at: usize, step: Step) -> bool
-    ensures { result ≡ sound_at count at step }
-{
-    if at < (count as usize) {
-        step_ok(step)
-    } else {
-        true
-    }
-}
-
+// The steps in use are sound.
 fn steps_sound(steps: [Step; 12], count: u8) -> bool
     ensures { result ≡ steps_sound (take count steps) }
 {
-    let mut ok = true;
-    let mut i = 0;
-    while i < 12 {
-        ok = ok & sound_at(count, i, steps[i]);
-        i += 1;
-    }
-    ok
+    steps.iter().take(count as usize).all(|step| step_ok(*step))
 }
 
-fn invalid(invalid: Invalid) -> Answer
-    ensures { result ≡ Answer.Refused (Refusal.Invalid invalid) }
+fn invalid(invalid: Invalid) -> Result<(), Refusal>
+    ensures { result ≡ Err (Refusal.Invalid invalid) }
 {
-    Answer::Refused(Refusal::Invalid(invalid))
+    Err(Refusal::Invalid(invalid))
 }
 
 // Questions 6 to 9.
-pub fn validate(workout: Workout) -> Answer
+pub fn validate(workout: Workout) -> Result<(), Refusal>
     ensures { result ≡ valid_answer workout }
 {
-    let steps = workout.steps;
-    let blocks = workout.blocks;
     let count = workout.step_count;
     if count == 0 {
         return invalid(Invalid::NoSteps);
     }
-    if !blocks_sound(blocks, workout.block_count, least(count as usize, 12)) {
+    if !blocks_sound(
+        workout.blocks,
+        workout.block_count,
+        (count as usize).min(12),
+    ) {
         return invalid(Invalid::Block);
     }
-    if !steps_sound(steps, count) {
+    if !steps_sound(workout.steps, count) {
         return invalid(Invalid::Step);
     }
     if MAX_PLAYED < played_len(workout) {
         return invalid(Invalid::TooLong);
     }
-    Answer::Accepted
+    Ok(())
 }
 
 // Questions 5 to 9 of a workout in memory.
-pub fn check(workout: Workout) -> Answer
+pub fn check(workout: Workout) -> Result<(), Refusal>
     ensures { result ≡ workout_answer workout }
 {
     if well_formed(workout) {
         return validate(workout);
     }
-    Answer::Refused(Refusal::Field)
+    Err(Refusal::Field)
 }

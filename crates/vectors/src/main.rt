@@ -64,10 +64,8 @@ fn all_agree(question: u32, input: &[u8], answer: &[u8], words: u32) -> bool
     ensures { result ≡ agrees question input.now answer.now 0 words }
 {
     let mut same = true;
-    let mut i = 0;
-    while i < words {
+    for i in 0..words {
         same = same & (compare_replay::any_word(question, input, i) == compare::word_at(answer, i));
-        i += 1;
     }
     same
 }
@@ -140,10 +138,8 @@ fn replay_all(question: u32, list: &[u8]) -> Replay
         compared: 0,
         different: 0,
     };
-    let mut i = 0;
-    while i < list.len() {
+    for _ in 0..list.len() {
         s = step(question, list, s);
-        i += 1;
     }
     s
 }

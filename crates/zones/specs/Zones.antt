@@ -1,13 +1,10 @@
 -- ride/zones.rs: percent, zones, ranges, and document 01's question 10.
-use Rattle.std.specs.Prelude.{Bool, cond, ◌&&◌, List, [], ◌∷◌, ◌++◌, ℕ, ◌+◌, ◌-◌, ◌*◌, ◌/◌, max, min, ltb, leb, eqb, get_or}
-use Rattle.refusal.specs.declared.Answer.{Answer}
-use Rattle.refusal.specs.declared.Answer.TheVariants.{Accepted, Refused}
+use Rattle.std.specs.Prelude.{Bool, cond, ◌&&◌, List, [], ◌∷◌, ◌++◌, ℕ, ◌+◌, ◌-◌, ◌*◌, ◌/◌, max, min, ltb, leb, eqb, get_or, Err, Ok, Result, ⊤}
 use Rattle.refusal.specs.declared.Refusal.TheVariants as refusals
 use Rattle.refusal.specs.Number.{ask, question_number}
+use Rattle.refusal.specs.declared.Refusal.{Refusal}
 use Rattle.zones.specs.declared.TrainingProfile.{TrainingProfile}
 use Rattle.zones.specs.declared.Range.{Range}
-use Rattle.zones.specs.declared.NewProfile.{NewProfile}
-use Rattle.zones.specs.declared.NewProfile.TheVariants as made
 
 -- "Percent is (base × pct + 50) / 100, division downwards throughout."
 unfoldable pub percent_of : ℕ → ℕ → ℕ
@@ -17,20 +14,20 @@ percent_of base pct = (base * pct + 50) / 100
 abbrev pub profile_ok : TrainingProfile → Bool
 profile_ok p = leb 50 p.ftp_watts && leb p.ftp_watts 600 && leb 1 p.lthr_bpm && leb p.lthr_bpm 255
 
-unfoldable pub profile_answer : TrainingProfile → Answer
-profile_answer p = ask (profile_ok p) refusals.Profile Accepted
+unfoldable pub profile_answer : TrainingProfile → Result ⊤ Refusal
+profile_answer p = ask (profile_ok p) refusals.Profile (Ok tt)
 
-abbrev pub new_of : TrainingProfile → Answer → NewProfile
-new_of p Accepted = made.Profile p
-new_of p (Refused refusal) = made.Refused refusal
+abbrev pub new_of : TrainingProfile → Result ⊤ Refusal → Result TrainingProfile Refusal
+new_of p (Ok tt) = Ok p
+new_of p (Err refusal) = Err refusal
 
 -- "When an answer is an enum, a definition states this paper's number and values for each of its cases.": the question's number, 0 for
 -- none, beside the profile that the case has.
-abbrev pub new_number : NewProfile → ℕ
-new_number (made.Profile p) = 0
-new_number (made.Refused refusal) = question_number refusal
+abbrev pub new_number : Result TrainingProfile Refusal → ℕ
+new_number (Ok p) = 0
+new_number (Err refusal) = question_number refusal
 
-abbrev pub profile_new : ℕ → ℕ → NewProfile
+abbrev pub profile_new : ℕ → ℕ → Result TrainingProfile Refusal
 profile_new ftp lthr = let p : TrainingProfile = record { ftp_watts = ftp; lthr_bpm = lthr } in new_of p (profile_answer p)
 
 -- Upper bounds of power zones 1 to 6, in percent of FTP.

@@ -3,16 +3,16 @@
 // `ZoneTime`, which nothing of the workout module uses, is left out.
 #![tactic(auto)]
 
-ghost use Rattle.std.specs.Prelude.{◌≡◌, cond, ◌≤◌, ◌-◌, max, ltb, leb};
-ghost use Rattle.zones.specs.Zones.{percent_of, power_zone, heart_zone, power_range, heart_range, clamped, profile_answer, new_number, profile_new};
+ghost use Rattle.std.specs.Prelude.{◌≡◌, ◌≤◌};
+ghost use Rattle.zones.specs.Zones.{percent_of, power_zone, heart_zone, power_range, heart_range, profile_answer, new_number, profile_new};
 ghost use Rattle.refusal.specs.Number.{answer_number};
 
-use refusal::{Answer, Refusal};
+use refusal::Refusal;
 
 // Upper bound of power zones 1 to 6, in percent of FTP, and where the open zone 7 stops for a position gauge.
-const POWER_UPPER_PCT: [u8; 7] = [55, 75, 90, 105, 120, 150, 200];
+static POWER_UPPER_PCT: [u8; 7] = [55, 75, 90, 105, 120, 150, 200];
 // Lower bound of heart zones 2 to 5, in percent of LTHR, with the ends of the outer zones for a position gauge.
-const HEART_BOUND_PCT: [u8; 6] = [65, 81, 90, 94, 100, 110];
+static HEART_BOUND_PCT: [u8; 6] = [65, 81, 90, 94, 100, 110];
 
 // Thresholds the zones derive from.
 #[derive(Clone, Copy, Drop)]
@@ -28,81 +28,31 @@ pub struct Range {
     pub next: u32,
 }
 
-// A profile, or the refusal of its thresholds.
-#[derive(Clone, Copy, Drop)]
-pub enum NewProfile {
-    Profile(TrainingProfile),
-    Refused(Refusal),
-}
-
 // `pct` percent of `base`, rounded half up.
+#[tactic(auto, unfolding(crate::specs::Zones::percent_of))]
 pub fn percent(base: u16, pct: u8) -> u32
     ensures { (result ≡ percent_of base pct) × (result ≤ 167114) }
 {
     ((base as u32) * (pct as u32) + 50) / 100
 }
 
-// 1 where `value` is above `pct` percent of `base`, else 0.
-fn above(base: u16, pct: u8, value: u16) -> u8
-    ensures { (result ≡ cond (ltb (percent_of base pct) value) 1 0) × (result ≤ 1) }
-{
-    if percent(base, pct) < (value as u32) {
-        1
-    } else {
-        0
-    }
-}
-
-// 1 where `value` is at least `pct` percent of `base`, else 0.
-fn reached(base: u16, pct: u8, value: u16) -> u8
-    ensures { (result ≡ cond (leb (percent_of base pct) value) 1 0) × (result ≤ 1) }
-{
-    if percent(base, pct) <= (value as u32) {
-        1
-    } else {
-        0
-    }
-}
-
-// `zone`, moved into 1 to `zones`, as an index from 0.
-fn index(zone: u8, zones: u8) -> usize
-    ensures { (result ≡ clamped zone zones - 1) × (result ≤ zones - 1) }
-{
-    if zone == 0 {
-        return 0;
-    }
-    if zones == 0 {
-        return 0;
-    }
-    if zone < zones {
-        (zone - 1) as usize
-    } else {
-        (zones - 1) as usize
-    }
-}
-
-fn greater(a: u32, b: u32) -> u32
-    ensures { result ≡ max a b }
-{
-    if a < b { b } else { a }
-}
-
 impl TrainingProfile {
     // Question 10.
-    pub fn check(self) -> Answer
+    #[tactic(auto, unfolding(crate::specs::Zones::profile_answer))]
+    pub fn check(self) -> Result<(), Refusal>
         ensures { result ≡ profile_answer self }
     {
         let ftp = self.ftp_watts;
         let lthr = self.lthr_bpm;
         if (50 <= ftp) & (ftp <= 600) & (1 <= lthr) & (lthr <= 255) {
-            Answer::Accepted
+            Ok(())
         } else {
-            Answer::Refused(Refusal::Profile)
+            Err(Refusal::Profile)
         }
     }
 
     // A profile, if both thresholds pass question 10.
-    pub fn new(ftp_watts: u16, lthr_bpm: u16) -> NewProfile
+    pub fn new(ftp_watts: u16, lthr_bpm: u16) -> Result<TrainingProfile, Refusal>
         ensures value { result ≡ profile_new ftp_watts lthr_bpm }
         ensures result_value { new_number result ≡ answer_number (profile_answer (record { ftp_watts = ftp_watts; lthr_bpm = lthr_bpm })) }
     {
@@ -110,10 +60,8 @@ impl TrainingProfile {
             ftp_watts,
             lthr_bpm,
         };
-        match profile.check() {
-            Answer::Accepted => NewProfile::Profile(profile),
-            Answer::Refused(refusal) => NewProfile::Refused(refusal),
-        }
+        profile.check()?;
+        Ok(profile)
     }
 
     // Power zone 1 to 7.
@@ -121,12 +69,11 @@ impl TrainingProfile {
         ensures { result ≡ power_zone self watts }
     {
         let ftp = self.ftp_watts;
-        1 + above(ftp, 55, watts)
-            + above(ftp, 75, watts)
-            + above(ftp, 90, watts)
-            + above(ftp, 105, watts)
-            + above(ftp, 120, watts)
-            + above(ftp, 150, watts)
+        let exceeded = POWER_UPPER_PCT[..6]
+            .iter()
+            .filter(|pct| percent(ftp, **pct) < (watts as u32))
+            .count();
+        1 + (exceeded as u8)
     }
 
     // Heart rate zone 1 to 5.
@@ -134,43 +81,42 @@ impl TrainingProfile {
         ensures { result ≡ heart_zone self bpm }
     {
         let lthr = self.lthr_bpm;
-        1 + reached(lthr, 81, bpm)
-            + reached(lthr, 90, bpm)
-            + reached(lthr, 94, bpm)
-            + reached(lthr, 100, bpm)
+        let reached = HEART_BOUND_PCT[1..5]
+            .iter()
+            .filter(|pct| percent(lthr, **pct) <= (bpm as u32))
+            .count();
+        1 + (reached as u8)
     }
 
     // Watts where `zone` begins and where the next one begins. The open top zone ends at twice FTP, for a gauge.
+    #[tactic(auto, unfolding(crate::specs::Zones::power_range))]
     pub fn power_range(self, zone: u8) -> Range
         ensures { result ≡ power_range self zone }
     {
-        let bounds = POWER_UPPER_PCT;
-        let at = index(zone, 7);
-        let next = percent(self.ftp_watts, bounds[at]) + 1;
-        if at == 0 {
-            return Range {
-                low: 0,
-                next: greater(next, 1),
-            };
-        }
-        let low = percent(self.ftp_watts, bounds[at - 1]) + 1;
+        let at = (zone.clamp(1, 7) - 1) as usize;
+        let low = if at == 0 {
+            0
+        } else {
+            percent(self.ftp_watts, POWER_UPPER_PCT[at - 1]) + 1
+        };
+        let next = percent(self.ftp_watts, POWER_UPPER_PCT[at]) + 1;
         Range {
             low,
-            next: greater(next, low + 1),
+            next: next.max(low + 1),
         }
     }
 
     // Beats where `zone` begins and where the next one begins. The open outer zones span 65 % to 110 % of LTHR, for a gauge.
+    #[tactic(auto, unfolding(crate::specs::Zones::heart_range))]
     pub fn heart_range(self, zone: u8) -> Range
         ensures { result ≡ heart_range self zone }
     {
-        let bounds = HEART_BOUND_PCT;
-        let at = index(zone, 5);
-        let low = percent(self.lthr_bpm, bounds[at]);
-        let next = percent(self.lthr_bpm, bounds[at + 1]);
+        let at = (zone.clamp(1, 5) - 1) as usize;
+        let low = percent(self.lthr_bpm, HEART_BOUND_PCT[at]);
+        let next = percent(self.lthr_bpm, HEART_BOUND_PCT[at + 1]);
         Range {
             low,
-            next: greater(next, low + 1),
+            next: next.max(low + 1),
         }
     }
 }

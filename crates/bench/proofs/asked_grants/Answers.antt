@@ -7,19 +7,16 @@ use Rattle.bench.proofs.Laws.{total-start, total-next}
 use Rattle.bench.proofs.asked_grants.Goals as goal
 
 pub loop-i-init : goal.loop-i-init
-loop-i-init c = (omega arith, total-start c.asked_bikes-bikes.result, omega arith)
-
-pub loop-i-smaller : goal.loop-i-smaller
-loop-i-smaller c = omega arith
+loop-i-init c = (total-start c.asked_bikes-bikes.result, omega arith)
 
 pub loop-i-preserved : goal.loop-i-preserved
 loop-i-preserved c =
     let at = c.loop-i in
-    (omega arith, ap₂ ◌+◌ at.invariant.1 c.asked_grant.ensures ∙ total-next at.i _, omega arith)
+    (ap₂ ◌+◌ at.invariant.0 c.asked_grant.ensures ∙ total-next at.i _, omega arith)
 
 pub returns : goal.returns
 returns c =
     let at = c.loop-i in
     let a = c.args in
-    let all : at.i ≡ a.n = omega (arith, c.loop-i-test.false) in
-    at.invariant.1 ∙ ap₂ watts_total all (c.asked_bikes-bikes.ensures ∙ ap asked_bikes c.begun.ensures)
+    let all : at.i ≡ a.n = omega arith in
+    at.invariant.0 ∙ ap₂ watts_total all (c.asked_bikes-bikes.ensures ∙ ap asked_bikes c.begun.ensures)

@@ -1,11 +1,8 @@
 -- `asked_rides`: what is left to ride gives what all of it does.
 use mathlib.Core.Path.{◌≡◌}
-use Prim.Native.Nat.{◌-◌, ◌≤◌}
+use Prim.Native.Nat.{◌-◌}
 use Rattle.bench.specs.Rides.{begun_of, rides_of}
 use Rattle.bench.proofs.asked_rides.Given as goal
 
-abbrev pub invariant-loop-i : goal.invariant-loop-i
-invariant-loop-i l = (l.i ≤ l.n) × (rides_of (l.n - l.i) l.player ≡ rides_of l.n (begun_of l.file))
-
-abbrev pub decreases-loop-i : goal.decreases-loop-i
-decreases-loop-i l = l.n - l.i
+abbrev pub invariant-loop : goal.invariant-loop
+invariant-loop l = rides_of (l.n - l.counter) l.player ≡ rides_of l.n (begun_of l.file)

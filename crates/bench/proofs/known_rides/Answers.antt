@@ -10,17 +10,14 @@ use Rattle.bench.proofs.known_rides.Goals as goal
 pub returns-then-not-is_standing : goal.returns-then-not-is_standing
 returns-then-not-is_standing c = let a = c.args in let p = c.begun-player.result in ap (λ (p : Player). p.core.total_ms.0) (sym (rides-refused p (sym c.is_standing.ensures ∙ c.if-not-is_standing.true) a.n) ∙ ap (λ (p : Player). rides_of a.n p) c.begun-player.ensures)
 
-pub loop-i-init : goal.loop-i-init
-loop-i-init c = let a = c.args in (omega arith, rides-start a.n _ _ c.begun-player.ensures, sym c.is_standing.ensures ∙ c.if-not-is_standing.false)
+pub loop-init : goal.loop-init
+loop-init c = let a = c.args in (rides-start a.n _ _ c.begun-player.ensures, sym c.is_standing.ensures ∙ c.if-not-is_standing.false)
 
 pub known_ride-player-requires : goal.known_ride-player-requires
-known_ride-player-requires c = c.loop-i.invariant.2
+known_ride-player-requires c = c.loop.invariant.1
 
-pub loop-i-smaller : goal.loop-i-smaller
-loop-i-smaller c = omega arith
-
-pub loop-i-preserved : goal.loop-i-preserved
-loop-i-preserved c = let at = c.loop-i in let a = c.args in (omega arith, ap (λ (p : Player). rides_of (a.n - (at.i + 1)) p) c.known_ride-player.ensures.0 ∙ rides-next a.n at.i at.player _ c.loop-i-test.true at.invariant.1, c.known_ride-player.ensures.1)
+pub loop-preserved : goal.loop-preserved
+loop-preserved c = let at = c.loop in let a = c.args in (ap (λ (p : Player). rides_of (a.n - (at.counter + 1)) p) c.known_ride-player.ensures.0 ∙ rides-next a.n at.counter at.player _ (omega arith) at.invariant.0, c.known_ride-player.ensures.1)
 
 pub returns : goal.returns
-returns c = let at = c.loop-i in let a = c.args in ap (λ (p : Player). p.core.total_ms.0) (sym (rides-end a.n at.i at.player c.loop-i-test.false) ∙ at.invariant.1)
+returns c = let at = c.loop in let a = c.args in ap (λ (p : Player). p.core.total_ms.0) (sym (rides-end a.n at.counter at.player (omega arith)) ∙ at.invariant.0)

@@ -2,7 +2,7 @@
 use mathlib.Core.Path.{◌≡◌, ◌∙◌, refl, ap}
 use Prim.Native.Nat.{min}
 use native.Mathlib.Omega.{arith}
-use lib.ListN.{length, length-set}
+use lib.ListN.{length}
 use Rattle.common.specs.Lists.{range}
 use Rattle.compare_files.proofs.Answer.{filled_next}
 use Rattle.compare_files.specs.Files.{filled}
@@ -13,31 +13,19 @@ use Rattle.compare_cut.proofs.compare_cut.Goals as goal
 
 pub loop-i-init : goal.loop-i-init
 unfolding range cut_after
-loop-i-init c = (omega arith, (refl, (refl, c.begin-seen.ensures)))
-
-pub bounds-answer-i : goal.bounds-answer-i
-bounds-answer-i c = omega (arith, c.least-n.ensures, c.loop-i.invariant.1.0)
-
-pub next_cut-seen-requires : goal.next_cut-seen-requires
-next_cut-seen-requires c = omega (arith, c.least-n.ensures)
-
-pub loop-i-smaller : goal.loop-i-smaller
-loop-i-smaller c = omega arith
+loop-i-init c = (refl, c.begin-seen.ensures)
 
 pub loop-i-preserved : goal.loop-i-preserved
 loop-i-preserved c = let a = c.args in
     let d = a.answer.now in
     let at = c.loop-i in
-    let word = c.cut_word.ensures ∙ word_after_lem a.file.now a.calls.now at.i at.seen at.invariant.1.1.1 in
+    let word = c.cut_word.ensures ∙ word_after_lem a.file.now a.calls.now at.i at.seen at.invariant.1 in
     let more = filled_next (word_after a.file.now a.calls.now) d at.i (omega (arith, c.least-n.ensures)) in
-    let seen = c.next_cut-seen.ensures ∙ ap (λ (s : Seen). next_cut a.calls.now s at.i) at.invariant.1.1.1 ∙ cut-next a.file.now a.calls.now at.i in
-    (omega arith, (simp length-set at.invariant.1.0, (rw (word, at.invariant.1.1.0) more, seen)))
-
-pub shape_of-answer : goal.shape_of-answer
-shape_of-answer c = c.loop-i.invariant.1.0
+    let seen = c.next_cut-seen.ensures ∙ ap (λ (s : Seen). next_cut a.calls.now s at.i) at.invariant.1 ∙ cut-next a.file.now a.calls.now at.i in
+    (rw (word, at.invariant.0) more, seen)
 
 pub returns : goal.returns
 returns c = let a = c.args in
     let d = a.answer.now in
     let all : c.loop-i.i ≡ min (length d) 137000 = omega (arith, c.least-n.ensures) in
-    c.loop-i.invariant.1.1.0 ∙ ap (filled (word_after a.file.now a.calls.now) d) all
+    c.loop-i.invariant.0 ∙ ap (filled (word_after a.file.now a.calls.now) d) all

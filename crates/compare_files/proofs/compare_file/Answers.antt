@@ -2,7 +2,7 @@
 use mathlib.Core.Path.{◌≡◌, ◌∙◌, refl, ap}
 use Prim.Native.Nat.{min}
 use native.Mathlib.Omega.{arith}
-use lib.ListN.{length, length-set}
+use lib.ListN.{length}
 use Rattle.common.specs.Lists.{range}
 use Rattle.decode.specs.declared.Decoded.{Decoded}
 use Rattle.compare_files.proofs.Answer.{filled_next}
@@ -11,29 +11,17 @@ use Rattle.compare_files.proofs.compare_file.Goals as goal
 
 pub loop-i-init : goal.loop-i-init
 unfolding range
-loop-i-init c = (omega arith, (refl, refl))
-
-pub overflow_cast-i : goal.overflow_cast-i
-overflow_cast-i c = omega (arith, c.least-n.ensures)
-
-pub bounds-answer-i : goal.bounds-answer-i
-bounds-answer-i c = omega (arith, c.least-n.ensures, c.loop-i.invariant.1.0)
-
-pub loop-i-smaller : goal.loop-i-smaller
-loop-i-smaller c = omega arith
+loop-i-init c = refl
 
 pub loop-i-preserved : goal.loop-i-preserved
 loop-i-preserved c = let d = c.args.answer.now in
     let at = c.loop-i in
     let read = c.decode-read.result in
-    (omega arith, (simp length-set at.invariant.1.0, rw (c.file_word.ensures, at.invariant.1.1) (filled_next (file_word read) d at.i (omega (arith, c.least-n.ensures)))))
-
-pub shape_of-answer : goal.shape_of-answer
-shape_of-answer c = c.loop-i.invariant.1.0
+    rw (c.file_word.ensures, at.invariant) (filled_next (file_word read) d at.i (omega (arith, c.least-n.ensures)))
 
 pub returns : goal.returns
 returns c = let d = c.args.answer.now in
     let all : c.loop-i.i ≡ min (length d) 280 = omega (arith, c.least-n.ensures) in
-    c.loop-i.invariant.1.1
+    c.loop-i.invariant
     ∙ ap (filled (file_word c.decode-read.result) d) all
     ∙ ap (λ (r : Decoded). filled (file_word r) d (min (length d) 280)) c.decode-read.ensures

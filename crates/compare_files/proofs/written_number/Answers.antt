@@ -3,8 +3,8 @@ use mathlib.Core.Path.{sym, ap}
 use Rattle.compare_files.specs.Files.{written_number}
 use Rattle.compare_files.proofs.written_number.Goals as goal
 
-pub returns-in-Written : goal.returns-in-Written
-returns-in-Written c = sym (ap written_number c.in-Written.is)
+pub returns-in-Ok : goal.returns-in-Ok
+returns-in-Ok c = sym (ap written_number c.in-Ok.is)
 
-pub returns-in-Refused : goal.returns-in-Refused
-returns-in-Refused c = simp (c.in-Refused.is, c.number.ensures)
+pub returns-in-Err : goal.returns-in-Err
+returns-in-Err c = simp (c.in-Err.is, c.number.ensures)

@@ -11,20 +11,15 @@ use Rattle.compare_places.proofs.after.Goals as goal
 
 pub loop-i-init : goal.loop-i-init
 unfolding player_after
-loop-i-init c = (omega arith, ap (λ (s : Seen). s.player) c.begin-seen.ensures)
-
-pub loop-i-smaller : goal.loop-i-smaller
-loop-i-smaller c = omega arith
+loop-i-init c = ap (λ (s : Seen). s.player) c.begin-seen.ensures
 
 pub loop-i-preserved : goal.loop-i-preserved
 loop-i-preserved c = let a = c.args in
-    let at = c.loop-i in (
-      omega arith,
-      c.play-player.ensures
-          ∙ ap (λ (k : Call). played_lent at.player k a.exact) c.call_at.ensures
-          ∙ ap (λ (p : Player). played_lent p (call_at a.calls.now at.i) a.exact) at.invariant.1
-          ∙ player-next a.file.now a.calls.now a.exact at.i,
-    )
+    let at = c.loop-i in
+    c.play-player.ensures
+    ∙ ap (λ (k : Call). played_lent at.player k a.exact) c.call_at.ensures
+    ∙ ap (λ (p : Player). played_lent p (call_at a.calls.now at.i) a.exact) at.invariant
+    ∙ player-next a.file.now a.calls.now a.exact at.i
 
 pub returns : goal.returns
-returns c = let a = c.args in c.loop-i.invariant.1 ∙ ap (player_after a.file.now a.calls.now a.exact) (omega arith)
+returns c = let a = c.args in c.loop-i.invariant ∙ ap (player_after a.file.now a.calls.now a.exact) (omega arith)

@@ -2,7 +2,7 @@
 use mathlib.Core.Path.{◌≡◌, ◌∙◌, refl, ap}
 use Prim.Native.Nat.{min}
 use native.Mathlib.Omega.{arith}
-use lib.ListN.{length, length-set}
+use lib.ListN.{length}
 use Rattle.common.specs.Lists.{range}
 use Rattle.compare_files.proofs.Answer.{filled_next}
 use Rattle.compare_files.specs.Files.{filled}
@@ -11,29 +11,17 @@ use Rattle.compare_places.proofs.fill.Goals as goal
 
 pub loop-i-init : goal.loop-i-init
 unfolding range
-loop-i-init c = (omega arith, (refl, refl))
-
-pub overflow_cast-i : goal.overflow_cast-i
-overflow_cast-i c = omega (arith, c.least-n.ensures)
-
-pub bounds-answer-i : goal.bounds-answer-i
-bounds-answer-i c = omega (arith, c.least-n.ensures, c.loop-i.invariant.1.0)
-
-pub loop-i-smaller : goal.loop-i-smaller
-loop-i-smaller c = omega arith
+loop-i-init c = refl
 
 pub loop-i-preserved : goal.loop-i-preserved
 loop-i-preserved c = let a = c.args in
     let d = a.answer.now in
     let at = c.loop-i in
     let more = filled_next (place_word a.told a.seen) d at.i (omega (arith, c.least-n.ensures)) in
-    (omega arith, (simp length-set at.invariant.1.0, rw (c.place_word.ensures, at.invariant.1.1) more))
-
-pub shape_of-answer : goal.shape_of-answer
-shape_of-answer c = c.loop-i.invariant.1.0
+    rw (c.place_word.ensures, at.invariant) more
 
 pub returns : goal.returns
 returns c = let a = c.args in
     let d = a.answer.now in
     let all : c.loop-i.i ≡ min (length d) 82 = omega (arith, c.least-n.ensures) in
-    c.loop-i.invariant.1.1 ∙ ap (filled (place_word a.told a.seen) d) all
+    c.loop-i.invariant ∙ ap (filled (place_word a.told a.seen) d) all

@@ -8,15 +8,12 @@ use Rattle.compare_player.proofs.seen_at.Goals as goal
 
 pub loop-i-init : goal.loop-i-init
 unfolding seen_after
-loop-i-init c = (omega arith, c.begin-seen.ensures)
-
-pub loop-i-smaller : goal.loop-i-smaller
-loop-i-smaller c = omega arith
+loop-i-init c = c.begin-seen.ensures
 
 pub loop-i-preserved : goal.loop-i-preserved
 loop-i-preserved c = let a = c.args in
     let at = c.loop-i in
-    (omega arith, c.take_turn-seen.ensures ∙ ap (λ (s : Seen). turned a.calls.now s at.i) at.invariant.1 ∙ seen-turn a.file.now a.calls.now at.i)
+    c.take_turn-seen.ensures ∙ ap (λ (s : Seen). turned a.calls.now s at.i) at.invariant ∙ seen-turn a.file.now a.calls.now at.i
 
 pub returns : goal.returns
-returns c = let a = c.args in c.loop-i.invariant.1 ∙ ap (seen_after a.file.now a.calls.now) (omega arith)
+returns c = let a = c.args in c.loop-i.invariant ∙ ap (seen_after a.file.now a.calls.now) (omega arith)

@@ -1,10 +1,12 @@
 -- `compare_reports::seen_word` gives a word of one of the five groups.
-use mathlib.Core.Path.{◌∙◌}
+use mathlib.Core.Path.{◌∙◌, ap}
 use Prim.Native.Nat.{◌/◌, ◌%◌}
 use Rattle.common.proofs.Matches.{past, at_least}
 use Rattle.compare_files.specs.Files.{step_word}
 use Rattle.compare_reports.specs.Words.{seen_word, seen_words}
 use Rattle.compare_reports.proofs.seen_word.Goals as goal
+use Rattle.order.specs.declared.Played.{Played}
+use Rattle.order.specs.Order.{played_in}
 
 pub returns-in-0 : goal.returns-in-0
 unfolding seen_word
@@ -24,4 +26,4 @@ returns-in-3 c = rw c.in-3.is c.step_word.ensures
 
 pub returns-in_default : goal.returns-in_default
 unfolding seen_word
-returns-in_default c = let a = c.args in c.step_word-in_default.ensures ∙ past (seen_words a.given a.reported (a.place % 16)) (a.place / 16) (step_word a.reported.now.now.next.played.step (a.place % 16)) (at_least 4 _ c.in_default.in_default-own.rest)
+returns-in_default c = let a = c.args in c.step_word-in_default.ensures ∙ ap (λ (n : Played). step_word n.step (a.place % 16)) c.unwrap_or-next.ensures ∙ past (seen_words a.given a.reported (a.place % 16)) (a.place / 16) (step_word (played_in a.reported.now.now.next).step (a.place % 16)) (at_least 4 _ c.in_default.in_default-own.rest)

@@ -1,29 +1,12 @@
--- `decode::decode` meets its contract: each return is the first of the questions 1 to 4 that fails, or the contents.
-use lib.ListN.{length-take}
-use native.Mathlib.Omega.{arith}
-use mathlib.Core.Path.{sym, ◌∙◌}
-use Rattle.decode.proofs.File.{too_short, too_long, no-magic, no-version, no-check, checked}
+-- `decode::decode`: the workout, or the refusal with the empty workout.
+use mathlib.Core.Path.{sym, ap, ◌∙◌}
+use Rattle.decode.specs.Decode.{decoded, decode_of}
 use Rattle.decode.proofs.decode.Goals as goal
 
-pub returns-then-len-lt4 : goal.returns-then-len-lt4
-returns-then-len-lt4 c = c.no_workout.ensures ∙ too_short c.args.bytes.now c.if-len-lt4.true
+pub returns-in-Ok : goal.returns-in-Ok
+unfolding decode_of
+returns-in-Ok c = ap decoded (sym c.in-Ok.is ∙ c.read_file.ensures)
 
-pub returns-then-len-gt475 : goal.returns-then-len-gt475
-returns-then-len-gt475 c = c.no_workout-then-len-gt475.ensures ∙ too_long c.args.bytes.now c.if-len-lt4.false c.if-len-gt475.true
-
-pub slice_bounds-body-end : goal.slice_bounds-body-end
-slice_bounds-body-end c = simp length-take (omega arith)
-
-pub returns-then-not-is_workout : goal.returns-then-not-is_workout
-returns-then-not-is_workout c = c.no_workout-then-not-is_workout.ensures ∙ no-magic c.args.bytes.now c.if-len-lt4.false c.if-len-gt475.false (sym c.is_workout.ensures ∙ c.if-not-is_workout.true)
-
-pub returns-then-byte_or_0-ne1 : goal.returns-then-byte_or_0-ne1
-returns-then-byte_or_0-ne1 c = c.no_workout-then-byte_or_0-ne1.ensures ∙ no-version c.args.bytes.now c.if-len-lt4.false c.if-len-gt475.false (sym c.is_workout.ensures ∙ c.if-not-is_workout.false) (λ e. c.if-byte_or_0-ne1.true (c.byte_or_0.ensures ∙ e))
-
-pub returns-then-crc32-get_u32 : goal.returns-then-crc32-get_u32
-returns-then-crc32-get_u32 c = c.no_workout-then-crc32-get_u32.ensures ∙ no-check c.args.bytes.now c.if-len-lt4.false c.if-len-gt475.false (sym c.is_workout.ensures ∙ c.if-not-is_workout.false) (sym c.byte_or_0.ensures ∙ c.if-byte_or_0-ne1.false)
-    (λ e. c.if-crc32-get_u32.true (c.crc32.ensures ∙ e ∙ sym c.get_u32.ensures))
-
-pub returns : goal.returns
-returns c = c.contents.ensures ∙ checked c.args.bytes.now c.if-len-lt4.false c.if-len-gt475.false (sym c.is_workout.ensures ∙ c.if-not-is_workout.false) (sym c.byte_or_0.ensures ∙ c.if-byte_or_0-ne1.false)
-    (sym c.crc32.ensures ∙ c.if-crc32-get_u32.false ∙ c.get_u32.ensures)
+pub returns-in-Err : goal.returns-in-Err
+unfolding decode_of
+returns-in-Err c = rw c.empty_workout.ensures (ap decoded (sym c.in-Err.is ∙ c.read_file.ensures))

@@ -1,9 +1,9 @@
 -- `decode::test_of` meets its contract: each kind stands at its number in the table.
+use Rattle.std.specs.Prelude.{None}
 use lib.ListN.{get_or-eq_default}
 use mathlib.Core.Path.{sym}
 use native.Mathlib.Omega.{arith}
 use Rattle.decode.specs.Decode.{test_of, test_kinds}
-use Rattle.decode.specs.declared.TestOption.TheVariants as test
 use Rattle.decode.proofs.test_of.Goals as goal
 
 pub returns-in-0 : goal.returns-in-0
@@ -20,4 +20,4 @@ returns-in-2 c = rw c.in-2.is
 
 pub returns-in_default : goal.returns-in_default
 unfolding test_of
-returns-in_default c = sym (get_or-eq_default test_kinds test.None {n = c.args.kind} (omega arith))
+returns-in_default c = sym (get_or-eq_default test_kinds None {n = c.args.kind} (omega arith))

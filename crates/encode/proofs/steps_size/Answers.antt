@@ -2,42 +2,27 @@
 use lib.ListN.{length, take, length-append, get_or}
 use native.Mathlib.Omega.{arith}
 use mathlib.Core.List.{flat_map}
-use Prim.Native.Nat.{ℕ}
-use mathlib.Core.Path.{◌≡◌, ◌∙◌, ap}
+use mathlib.Core.Path.{◌∙◌, ap}
 use Rattle.steps.specs.Bytes.{step_bytes}
 use Rattle.encode.proofs.Sizes.{blank_step, note-fits}
 use Rattle.encode.proofs.Many.{flat-next}
 use Rattle.encode.proofs.steps_size.Goals as goal
 
-pub loop-i-init : goal.loop-i-init
+pub loop-step-init : goal.loop-step-init
 unfolding flat_map
-loop-i-init c = (omega arith, omega arith, omega arith)
-
-pub bounds-steps-i : goal.bounds-steps-i
-bounds-steps-i c = omega arith
+loop-step-init c = (omega arith, omega arith)
 
 pub step_size-size-requires : goal.step_size-size-requires
-step_size-size-requires c = let a = c.args in let l = c.loop-i in let p = c.requires in note-fits a.steps a.n l.i _ (omega arith) (omega arith) p.1
+step_size-size-requires c =
+    let a = c.args in
+    let p = c.requires in
+    note-fits (take a.n a.steps) c.loop-step.step-index _ c.loop-step-test.true p.1
 
-pub overflow_add-size : goal.overflow_add-size
-overflow_add-size c = omega arith
-
-pub overflow_add-i : goal.overflow_add-i
-overflow_add-i c = omega arith
-
-pub loop-i-smaller : goal.loop-i-smaller
-loop-i-smaller c = omega arith
-
-pub loop-i-preserved : goal.loop-i-preserved
-loop-i-preserved c = let a = c.args in
-    let l = c.loop-i in (
-      omega arith,
-      omega (arith, c.step_size-size.ensures.0, ap length (flat-next step_bytes a.steps l.i blank_step (omega arith)) ∙ length-append (flat_map step_bytes (take l.i a.steps)) (step_bytes (get_or a.steps l.i blank_step))),
+pub loop-step-preserved : goal.loop-step-preserved
+loop-step-preserved c =
+    let a = c.args in
+    let i = c.loop-step.step-index in
+    let steps = take a.n a.steps in (
+      omega (arith, c.step_size-size.ensures.0, ap length (flat-next step_bytes steps i blank_step c.loop-step-test.true) ∙ length-append (flat_map step_bytes (take i steps)) (step_bytes (get_or steps i blank_step))),
       omega arith,
     )
-
-pub returns : goal.returns
-returns c = let a = c.args in
-    let l = c.loop-i in
-    let whole : l.i ≡ a.n = omega arith in
-    (l.invariant.1 ∙ ap (λ (k : ℕ). length (flat_map step_bytes (take k a.steps))) whole, omega arith)

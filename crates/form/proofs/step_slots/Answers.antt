@@ -1,29 +1,16 @@
--- `step_slots`: what has been found, and the places from i on, give the answer of all places.
-use mathlib.Core.Path.{◌∙◌, refl}
-use native.Mathlib.Omega.{arith}
-use Rattle.common.proofs.Lists.{all-at-step, all-at-end, all_split}
-use Rattle.form.specs.Form.{step_slot, step_slots, note_ok, is_no_step}
+-- `step_slots`: what the library finds of the places in use, and of those past them, is what the definition asks of them.
+use Rattle.std.proofs.Common.{rules, tests}
+use Rattle.std.proofs.lemmas.Iterator.{YieldsList-from_slice, YieldsList-from_take}
+use Rattle.std.proofs.lemmas.Iterator.Adapters.{YieldsList-from_skip}
+use mathlib.Core.Bool.{◌&&◌}
+use mathlib.Core.Path.{ap₂}
+use Rattle.names.proofs.All.{all-found}
+use Rattle.form.specs.Form.{step_slots, note_ok, is_no_step}
 use Rattle.form.proofs.step_slots.Goals as goal
-
-pub loop-i-init : goal.loop-i-init
-loop-i-init c = (omega arith, refl)
-
-pub step_slot-ok-requires : goal.step_slot-ok-requires
-step_slot-ok-requires c = tt
-
-pub overflow_add-i : goal.overflow_add-i
-overflow_add-i c = omega arith
-
-pub loop-i-smaller : goal.loop-i-smaller
-loop-i-smaller c = omega arith
-
-pub loop-i-preserved : goal.loop-i-preserved
-loop-i-preserved c = let l = c.loop-i in
-    let a = c.args in
-    (omega arith, rw c.step_slot-ok.ensures (all-at-step (step_slot a.count) l.ok a.steps l.i _ (omega arith) ∙ l.invariant.1))
 
 pub returns : goal.returns
 unfolding step_slots
-returns c = let l = c.loop-i in
-    let a = c.args in
-    all-at-end (step_slot a.count) l.ok a.steps l.i (omega arith) ∙ l.invariant.1 ∙ all_split note_ok is_no_step a.count a.steps
+returns c = let a = c.args in
+    ap₂ (λ s t. s && t)
+    (all-found note_ok _ _ _ c.all.ensures.ran (YieldsList-from_take a.count (YieldsList-from_slice a.steps cc) cc) (λ x b q k. search (rules, tests)))
+    (all-found is_no_step _ _ _ c.all-2.ensures.ran (YieldsList-from_skip a.count (YieldsList-from_slice a.steps cc) cc) (λ x b q k. search (rules, tests)))

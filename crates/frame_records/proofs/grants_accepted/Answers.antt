@@ -1,14 +1,14 @@
 -- `grants_accepted`: every call keeps a bike sound, so that four sound bikes pass 20 and 10 after every list.
+use Rattle.std.specs.Prelude.{Ok, Result, ⊤}
 use mathlib.Core.Path.{◌≡◌, refl, sym, ap, ap₂, ◌∙◌, subst}
 use mathlib.Core.Bool.{Bool, true}
 use mathlib.Core.List.{List, [], ◌∷◌}
 use Prim.Native.Nat.{ℕ, zero, suc}
 use native.Mathlib.Omega.{arith}
 use lib.ListN.{length}
-use Rattle.refusal.specs.declared.Answer.{Answer}
-use Rattle.refusal.specs.declared.Answer.TheVariants.{Accepted}
 use Rattle.refusal.specs.declared.Refusal.TheVariants as refusals
 use Rattle.refusal.specs.Number.{ask}
+use Rattle.refusal.specs.declared.Refusal.{Refusal}
 use Rattle.zones.specs.declared.TrainingProfile.{TrainingProfile}
 use Rattle.zones.specs.Zones.{profile_ok}
 use Rattle.model.specs.declared.Workout.{Workout}
@@ -61,18 +61,18 @@ run_sound [] bs powers sound = sound
 run_sound (call i c ∷ l) bs powers sound = run_sound l (changed_at i (after_call c) bs) powers.1 (changed-sound i c bs powers.0 sound)
 run_sound (grant supply i ∷ l) bs powers sound = run_sound l bs powers sound
 
-sound-pass : (bs : List Bike) → AllSound bs → bikes_answer bs ≡ Accepted
+sound-pass : (bs : List Bike) → AllSound bs → bikes_answer bs ≡ Ok tt
 unfolding bikes_answer
 sound-pass [] sound = refl
 sound-pass (b ∷ bs) sound =
     ap₂ (λ (s p : Bool). ask s refusals.Standing (ask p refusals.Profile (bikes_answer bs))) sound.0.stands sound.0.profiled
     ∙ sound-pass bs sound.1
 
-fresh-sound : (w : Workout) (f : TrainingProfile) → length w.steps ≡ 12 → workout_answer w ≡ Accepted → profile_ok f ≡ true
+fresh-sound : (w : Workout) (f : TrainingProfile) → length w.steps ≡ 12 → workout_answer w ≡ Ok tt → profile_ok f ≡ true
     → Sound (record { player = (new_of w).player; profile = f })
 unfolding new_of fresh
 fresh-sound w f twelve e ok =
-    let is : fresh w ≡ (new_of w).player = sym (ap (λ (a : Answer). (new_by w a).player) e) in
+    let is : fresh w ≡ (new_of w).player = sym (ap (λ (a : Result ⊤ Refusal). (new_by w a).player) e) in
     record {
       stands = subst (λ (p : Player). standing_of p ≡ true) is (keeps-standing.new w twelve e);
       profiled = ok;
@@ -85,6 +85,6 @@ returns c =
       fresh = fresh-sound;
       accepted = λ l a b c d sa sb sc sd powers supply bike h.
           let bikes : List Bike = (frame_run l (a ∷ b ∷ c ∷ d ∷ [])).bikes in
-          let pass : bikes_answer bikes ≡ Accepted = sound-pass bikes (run_sound l (a ∷ b ∷ c ∷ d ∷ []) powers (sa, (sb, (sc, (sd, tt))))) in
-          sym (ap (λ (g : Granted). g.answer) (grant-is bikes supply bike Accepted h pass));
+          let pass : bikes_answer bikes ≡ Ok tt = sound-pass bikes (run_sound l (a ∷ b ∷ c ∷ d ∷ []) powers (sa, (sb, (sc, (sd, tt))))) in
+          sym (ap (λ (g : Granted). g.answer) (grant-is bikes supply bike (Ok tt) h pass));
     }

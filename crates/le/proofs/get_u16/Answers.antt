@@ -1,11 +1,11 @@
--- The two bytes are a number of two bytes.
-use native.Mathlib.Omega.{arith}
-use Prim.Native.Nat.{◌+◌}
-use Rattle.le.proofs.Laws.{get-one, get-two}
+-- std's number of the bytes read is theirs.
+use mathlib.Core.Path.{ap, ◌∙◌}
+use lib.ListN.{length}
+use Rattle.le.specs.Le.{number_of}
+use Rattle.le.proofs.Laws.{number-std, length_part}
 use Rattle.le.proofs.get_u16.Goals as goal
 
 pub returns : goal.returns
 returns c =
     let a = c.args in
-    let s = a.bytes.now in
-    omega (arith, get-two 1 1 s a.at (omega arith), get-one s a.at (omega arith), get-one s (a.at + 1) (omega arith))
+    c.from_le_bytes.ensures ∙ number-std c.bytes_at.result 1 (ap length c.bytes_at.ensures ∙ length_part a.bytes.now a.at 2 c.requires) ∙ ap number_of c.bytes_at.ensures

@@ -1,7 +1,11 @@
--- Two numbers of 2 bytes are one of 4.
-use native.Mathlib.Omega.{arith}
-use Rattle.le.proofs.Laws.{get-two}
+-- std's number of the bytes read is theirs.
+use mathlib.Core.Path.{ap, ◌∙◌}
+use lib.ListN.{length}
+use Rattle.le.specs.Le.{number_of}
+use Rattle.le.proofs.Laws.{number-std, length_part}
 use Rattle.le.proofs.get_u32.Goals as goal
 
 pub returns : goal.returns
-returns c = let a = c.args in omega (arith, get-two 2 2 a.bytes.now a.at (omega arith))
+returns c =
+    let a = c.args in
+    c.from_le_bytes.ensures ∙ number-std c.bytes_at.result 3 (ap length c.bytes_at.ensures ∙ length_part a.bytes.now a.at 4 c.requires) ∙ ap number_of c.bytes_at.ensures

@@ -1,7 +1,10 @@
--- The two bytes are those of a number of two bytes.
-use native.Mathlib.Omega.{arith}
-use Rattle.le.proofs.Laws.{put-pair}
+-- std's bytes of the number are its own.
+use mathlib.Core.Path.{ap, ◌∙◌}
+use Rattle.le.specs.Le.{written}
+use Rattle.le.proofs.Laws.{bytes-std}
 use Rattle.le.proofs.put_u16.Goals as goal
 
 pub returns : goal.returns
-returns c = let a = c.args in cc (put-pair a.bytes.now a.at a.value (omega arith) (omega arith))
+returns c =
+    let a = c.args in
+    c.put_bytes.ensures ∙ ap (written a.bytes.now a.at) (c.to_le_bytes.ensures ∙ bytes-std 2 a.value)

@@ -1,27 +1,22 @@
 -- `machine::under_band` meets its contract: each millisecond of the machine and each part of a ride adds its time where there is a band.
+use Rattle.std.specs.Prelude.{Err, None, Ok, Result, Some, ⊤, Option}
 use mathlib.Core.Path.{◌≡◌, refl, ap, ◌∙◌}
 use mathlib.Core.Bool.{Bool, true, false, cond, ◌&&◌}
-use mathlib.Core.Option.{Option, none, some}
 use mathlib.Core.List.{List, [], ◌∷◌}
 use Prim.Native.Nat.{ℕ, zero, suc, ◌+◌, ◌/◌}
 use native.Mathlib.Omega.{arith}
 use lib.Dec.{ltb, leb}
 use Rattle.common.proofs.Tests.{cond-by}
-use Rattle.refusal.specs.declared.Answer.{Answer}
-use Rattle.refusal.specs.declared.Answer.TheVariants.{Accepted, Refused}
+use Rattle.refusal.specs.declared.Refusal.{Refusal}
 use Rattle.zones.specs.declared.TrainingProfile.{TrainingProfile}
 use Rattle.zones.specs.Zones.{heart_zone}
 use Rattle.model.specs.declared.Band.{Band}
-use Rattle.model.specs.declared.BandOption.{BandOption}
-use Rattle.model.specs.declared.BandOption.TheVariants as bands
 use Rattle.model.specs.declared.Step.{Step}
 use Rattle.model.specs.declared.Target.{Target}
 use Rattle.model.specs.declared.Target.TheVariants.{Free, Ftp, Watts, HeartZone, Lthr, Cadence, Ramp, FtpRamp}
 use Rattle.model.specs.declared.Test.{Test}
 use Rattle.model.specs.declared.Workout.{Workout}
 use Rattle.model.specs.Target.{band_of}
-use Rattle.power.specs.declared.ReadingOption.{ReadingOption}
-use Rattle.power.specs.declared.ReadingOption.TheVariants.{None, Some}
 use Rattle.readings.specs.declared.Compliance.{Compliance}
 use Rattle.readings.specs.declared.Compliance.TheVariants.{Under, In, Over}
 use Rattle.readings.specs.declared.ComplianceOption.TheVariants as how
@@ -58,16 +53,16 @@ judge-counts (Cadence low high) b p value t = between-counts b.low b.high value 
 judge-counts (Ramp from step every) b p value t = between-counts b.low b.high value t
 judge-counts (FtpRamp from step every) b p value t = between-counts b.low b.high value t
 
-reading-counts : (target : Target) (b : Band) (p : TrainingProfile) (r : ReadingOption) (t : Tallies) → counted (tally (judge_if target b p r) t) ≡ counted t + 1
+reading-counts : (target : Target) (b : Band) (p : TrainingProfile) (r : Option ℕ) (t : Tallies) → counted (tally (judge_if target b p r) t) ≡ counted t + 1
 unfolding tally
 reading-counts target b p None t = omega arith
 reading-counts target b p (Some value) t = judge-counts target b p value t
 
-judged-counts : (target : Target) (b : BandOption) (p : TrainingProfile) (samples : List Sample) (t : Tallies)
+judged-counts : (target : Target) (b : Option Band) (p : TrainingProfile) (samples : List Sample) (t : Tallies)
     → counted (tally (judged_by target b p samples) t) ≡ counted t + cond (has_band b) 1 0
 unfolding tally
-judged-counts target bands.None p samples t = omega arith
-judged-counts target (bands.Some b) p samples t = reading-counts target b p (reading_for b.metric samples) t
+judged-counts target None p samples t = omega arith
+judged-counts target (Some b) p samples t = reading-counts target b p (reading_for b.metric samples) t
 
 closed-tallies : (w : Workout) (s : Step) (m : Machine) → (closed w s m).tallies ≡ m.tallies
 unfolding closed ended
@@ -76,8 +71,8 @@ closed-tallies w s m = cond-by (λ (x : Machine). x.tallies ≡ m.tallies) (ends
 step_counts : (w : Workout) (p : TrainingProfile) (o : Option Step) (m : Machine)
     → counted (millisecond_in w p o m).tallies ≡ counted m.tallies + banded p o m.step.time
 unfolding millisecond_in ridden banded
-step_counts w p none m = omega arith
-step_counts w p (some s) m =
+step_counts w p None m = omega arith
+step_counts w p (Some s) m =
     ap counted (closed-tallies w s (ridden w p s m)) ∙ judged-counts s.target (band_of s.target p (m.step.time / 1000)) p m.readings m.tallies
 
 ms-count : (w : Workout) (p : TrainingProfile) (n : ℕ) (m : Machine) → counted (milliseconds w p n m).tallies ≡ counted m.tallies + banded_ms w p n m
@@ -89,20 +84,20 @@ summary-counts : (w : Workout) (m : Machine) → counted_in (summary_of w m) ≡
 unfolding summary_of
 summary-counts w m = refl
 
-unless-tallies : (answer : Answer) (s : Progress) (m : Machine) → m.tallies ≡ s.machine.tallies → (unless_refused answer s m).machine.tallies ≡ s.machine.tallies
+unless-tallies : (answer : Result ⊤ Refusal) (s : Progress) (m : Machine) → m.tallies ≡ s.machine.tallies → (unless_refused answer s m).machine.tallies ≡ s.machine.tallies
 unfolding unless_refused
-unless-tallies Accepted s m e = e
-unless-tallies (Refused refusal) s m e = refl
+unless-tallies (Ok tt) s m e = e
+unless-tallies (Err refusal) s m e = refl
 
 skipped-tallies : (w : Workout) (o : Option Step) (m : Machine) → (skipped w o m).tallies ≡ m.tallies
 unfolding skipped ended
-skipped-tallies w none m = refl
-skipped-tallies w (some s) m = refl
+skipped-tallies w None m = refl
+skipped-tallies w (Some s) m = refl
 
 extra-tallies : (extra : Option ℕ) (m : Machine) → (with_extra extra m).tallies ≡ m.tallies
 unfolding with_extra
-extra-tallies none m = refl
-extra-tallies (some extra) m = refl
+extra-tallies None m = refl
+extra-tallies (Some extra) m = refl
 
 module _ (w : Workout) (p : TrainingProfile) where
   call-counts : (c : Call) (qs : List Piece) (s : Progress) → counted (after_call w p c qs s).machine.tallies ≡ counted s.machine.tallies + call_banded w p c qs s
@@ -137,15 +132,15 @@ module _ (target : Target) (p : TrainingProfile) (r : Readings) (ms : ℕ) (s : 
   compliance-counts In = omega arith
   compliance-counts Over = omega arith
 
-  read-counts : (b : Band) (reading : ReadingOption) → counted_in (tallied (judged target b p reading) ms s) ≡ counted_in s + ms
+  read-counts : (b : Band) (reading : Option ℕ) → counted_in (tallied (judged target b p reading) ms s) ≡ counted_in s + ms
   unfolding judged tallied
   read-counts b None = omega arith
   read-counts b (Some value) = compliance-counts (compliance_by (compared target b p value))
 
-  tallied-counts : (b : BandOption) → counted_in (tallied (compliance_of target b p r) ms s) ≡ counted_in s + cond (has_band b) ms 0
+  tallied-counts : (b : Option Band) → counted_in (tallied (compliance_of target b p r) ms s) ≡ counted_in s + cond (has_band b) ms 0
   unfolding compliance_of tallied
-  tallied-counts bands.None = omega arith
-  tallied-counts (bands.Some b) = read-counts b (reading_of b.metric r)
+  tallied-counts None = omega arith
+  tallied-counts (Some b) = read-counts b (reading_of b.metric r)
 
 part-counts : (test : Test) (p : TrainingProfile) (ms mm : ℕ) (s : Riding)
     → counted_in (advanced test p ms mm s).core.summary ≡ counted_in s.core.summary + cond (has_band (band_of s.core.on.target p (s.core.lap.step_ms / 1000))) ms 0

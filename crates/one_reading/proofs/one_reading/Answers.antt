@@ -1,12 +1,12 @@
 -- `one_reading`: of both lists the FTP is the result of one time and of two sums of power (TestSums, Accepted), the second sum higher by
 -- the rise for each millisecond for which that reading was the latest (Beside); how far such a result moves is in Means.
+use Rattle.std.specs.Prelude.{Some}
 use mathlib.Core.Path.{◌≡◌, refl, sym, ap, ap₂, ◌∙◌, subst}
 use mathlib.Core.List.{List, [], ◌∷◌, ◌++◌, append_assoc, append-nil}
 use Prim.Native.Nat.{ℕ, ◌+◌, ◌*◌, ◌≤◌, ◌<◌}
 use native.Mathlib.Omega.{arith}
 use Rattle.zones.specs.declared.TrainingProfile.{TrainingProfile}
 use Rattle.model.specs.declared.Workout.{Workout}
-use Rattle.power.specs.declared.ReadingOption.TheVariants.{Some}
 use Rattle.machine.specs.Machine.{Machine, start, reading}
 use Rattle.machine.specs.Cutting.{Call, read, ride, skip, extend, alone}
 use Rattle.machine.specs.Runs.{Progress, begun, after_calls}

@@ -1,34 +1,34 @@
--- `planned_from`: the seconds added and those planned from `at` on are the seconds planned from `position` on.
-use mathlib.Core.Path.{◌≡◌, ◌∙◌, ap}
+-- `planned_from`: at most 96 positions, of which each adds at most 65535 seconds.
+use Rattle.std.proofs.Common.{rules}
+use Rattle.std.proofs.lemmas.Iterator.{YieldsList-from_range, YieldsList-from_map}
+use Rattle.std.proofs.lemmas.Iterator.Consumers.{sum_from_yields_List}
+use Rattle.std.proofs.lemmas.Iterator.Adapters.{fits_from_length, at_most_from_yields_List}
+use Rattle.std.specs.List.{range_with_len}
+use mathlib.Core.List.{map}
+use mathlib.Core.Path.{◌∙◌, refl}
+use Prim.Native.Nat.{ℕ, ◌-◌, ◌^◌}
 use native.Mathlib.Omega.{arith}
+use Rattle.blocks.proofs.Laws.{sum-list}
 use Rattle.order.specs.Order.{played_of, played_seconds}
-use Rattle.order.specs.declared.PlayedOption.{PlayedOption}
-use Rattle.order.proofs.Planned.{planned-step, planned-end}
+use Rattle.order.proofs.Laws.{length-from}
+use Rattle.order.proofs.Planned.{planned-list}
 use Rattle.order.proofs.planned_from.Goals as goal
 
-pub loop-at-init : goal.loop-at-init
-loop-at-init c = omega arith
-
-pub played_at-requires : goal.played_at-requires
-played_at-requires c = tt
-
-pub played_seconds-total-requires : goal.played_seconds-total-requires
-played_seconds-total-requires c = tt
-
-pub overflow_add-total : goal.overflow_add-total
-overflow_add-total c = omega arith
-
-pub overflow_add-at : goal.overflow_add-at
-overflow_add-at c = omega arith
-
-pub loop-at-smaller : goal.loop-at-smaller
-loop-at-smaller c = omega arith
-
-pub loop-at-preserved : goal.loop-at-preserved
-loop-at-preserved c = let w = c.args.workout in
-    let at = c.loop-at.at in
-    let one : c.played_seconds-total.result ≡ played_seconds (played_of w at) = c.played_seconds-total.ensures.0 ∙ ap (λ (p : PlayedOption). played_seconds p) c.played_at.ensures in
-    omega (arith, planned-step w at (omega arith))
+pub sum-requires-clause-fits : goal.sum-requires-clause-fits
+sum-requires-clause-fits c =
+    let at = c.args.position in
+    fits_from_length _ _ 96 (2 ^ 32)
+    (at_most_from_yields_List (YieldsList-from_range at 96 (96 - at) (cc) refl) (omega (arith, length-from at (96 - at))))
+    c.map.ensures.closure (omega arith) (λ x r q k. search rules)
 
 pub returns : goal.returns
-returns c = let e = planned-end c.args.workout c.loop-at.at (omega arith) in (omega arith, omega arith)
+returns c =
+    let w = c.args.workout in
+    let at = c.args.position in
+    let each : ℕ → ℕ = λ k. played_seconds (played_of w k) in
+    let total = sum_from_yields_List _ c.sum.result c.sum.ensures.ran (YieldsList-from_map _ each (YieldsList-from_range at 96 (96 - at) (cc) refl) c.map.ensures.closure (λ x r q k. search rules)) in
+    let p = c.sum.ensures.runs tt in
+    let few = fits_from_length _ _ 96 6291361
+    (at_most_from_yields_List (YieldsList-from_range at 96 (96 - at) (cc) refl) (omega (arith, length-from at (96 - at))))
+    c.map.ensures.closure (omega arith) (λ x r q k. search rules) p.0 p.0.seen p.1 in
+    (total ∙ sum-list (map each (range_with_len at (96 - at))) ∙ planned-list w (96 - at) at refl, omega (arith, few, p.3))

@@ -1,37 +1,37 @@
 -- `add`: one case for each question that fails, and one where none does.
+use Rattle.std.specs.Prelude.{Err}
 use Rattle.outcomes.proofs.Laws.{answers-is, eventless-answers}
 use Rattle.player.proofs.Laws.{asked-fits, update-passed, add-20, add-10, add-11, add-refused, add-taken}
 use Rattle.standing.proofs.Known.{known}
 use Rattle.refusal.specs.declared.Refusal.TheVariants as refusals
-use Rattle.refusal.specs.declared.Answer.TheVariants.{Refused}
 use mathlib.Core.Path.{sym, ◌∙◌}
 use Rattle.player.proofs.add.Goals as goal
 
 pub returns-then-not-is_standing : goal.returns-then-not-is_standing
 returns-then-not-is_standing c = let a = c.args in
-    eventless-answers _ _ a.player _ _ (Refused refusals.Standing) c.plain.ensures (add-20 a.player a.ms.0 a.mm.0 a.sample a.profile _ _ (sym c.is_standing.ensures ∙ c.if-not-is_standing.true))
+    eventless-answers _ _ a.player _ _ (Err refusals.Standing) c.plain.ensures (add-20 a.player a.ms.0 a.mm.0 a.sample a.profile _ _ (sym c.is_standing.ensures ∙ c.if-not-is_standing.true))
 
 pub returns-then-not-is_sound : goal.returns-then-not-is_sound
 returns-then-not-is_sound c = let a = c.args in
-    eventless-answers _ _ a.player _ _ (Refused refusals.Profile) c.plain-then-not-is_sound.ensures (add-10 a.player a.ms.0 a.mm.0 a.sample a.profile _ _ (sym c.is_standing.ensures ∙ c.if-not-is_standing.false) (sym c.is_sound.ensures ∙ c.if-not-is_sound.true))
+    eventless-answers _ _ a.player _ _ (Err refusals.Profile) c.plain-then-not-is_sound.ensures (add-10 a.player a.ms.0 a.mm.0 a.sample a.profile _ _ (sym c.is_standing.ensures ∙ c.if-not-is_standing.false) (sym c.is_sound.ensures ∙ c.if-not-is_sound.true))
 
 pub returns-then-not-cadence_in : goal.returns-then-not-cadence_in
 returns-then-not-cadence_in c = let a = c.args in
-    eventless-answers _ _ a.player _ _ (Refused refusals.Cadence) c.plain-then-not-cadence_in.ensures (add-11 a.player a.ms.0 a.mm.0 a.sample a.profile _ _ (sym c.is_standing.ensures ∙ c.if-not-is_standing.false) (sym c.is_sound.ensures ∙ c.if-not-is_sound.false) (sym c.cadence_in.ensures ∙ c.if-not-cadence_in.true))
+    eventless-answers _ _ a.player _ _ (Err refusals.Cadence) c.plain-then-not-cadence_in.ensures (add-11 a.player a.ms.0 a.mm.0 a.sample a.profile _ _ (sym c.is_standing.ensures ∙ c.if-not-is_standing.false) (sym c.is_sound.ensures ∙ c.if-not-is_sound.false) (sym c.cadence_in.ensures ∙ c.if-not-cadence_in.true))
 
 pub update_answer-requires : goal.update_answer-requires
 update_answer-requires c = asked-fits c.args.player (sym c.is_standing.ensures ∙ c.if-not-is_standing.false)
 
 pub add_now-requires : goal.add_now-requires
 add_now-requires c = let a = c.args in (
-  update-passed a.player.workout a.player.core a.ms.0 a.mm.0 _ _ (known a.player (sym c.is_standing.ensures ∙ c.if-not-is_standing.false)).core (sym c.update_answer.ensures ∙ c.in-Accepted.is),
+  update-passed a.player.workout a.player.core a.ms.0 a.mm.0 _ _ (known a.player (sym c.is_standing.ensures ∙ c.if-not-is_standing.false)).core (sym c.update_answer.ensures ∙ c.in-Ok.is),
   sym c.cadence_in.ensures ∙ c.if-not-cadence_in.false,
 )
 
-pub returns-in-Accepted : goal.returns-in-Accepted
-returns-in-Accepted c = let a = c.args in
-    answers-is (add-taken a.player a.ms.0 a.mm.0 a.sample a.profile _ _ (sym c.is_standing.ensures ∙ c.if-not-is_standing.false) (sym c.is_sound.ensures ∙ c.if-not-is_sound.false) (sym c.cadence_in.ensures ∙ c.if-not-cadence_in.false) (sym c.update_answer.ensures ∙ c.in-Accepted.is)) c.add_now.ensures
+pub returns-in-Ok : goal.returns-in-Ok
+returns-in-Ok c = let a = c.args in
+    answers-is (add-taken a.player a.ms.0 a.mm.0 a.sample a.profile _ _ (sym c.is_standing.ensures ∙ c.if-not-is_standing.false) (sym c.is_sound.ensures ∙ c.if-not-is_sound.false) (sym c.cadence_in.ensures ∙ c.if-not-cadence_in.false) (sym c.update_answer.ensures ∙ c.in-Ok.is)) c.add_now.ensures
 
-pub returns-in-Refused : goal.returns-in-Refused
-returns-in-Refused c = let a = c.args in
-    eventless-answers _ _ a.player _ _ _ c.plain-in-Refused.ensures (add-refused a.player a.ms.0 a.mm.0 a.sample a.profile _ _ _ (sym c.is_standing.ensures ∙ c.if-not-is_standing.false) (sym c.is_sound.ensures ∙ c.if-not-is_sound.false) (sym c.cadence_in.ensures ∙ c.if-not-cadence_in.false) (sym c.update_answer.ensures ∙ c.in-Refused.is))
+pub returns-in-Err : goal.returns-in-Err
+returns-in-Err c = let a = c.args in
+    eventless-answers _ _ a.player _ _ _ c.plain-in-Err.ensures (add-refused a.player a.ms.0 a.mm.0 a.sample a.profile _ _ _ (sym c.is_standing.ensures ∙ c.if-not-is_standing.false) (sym c.is_sound.ensures ∙ c.if-not-is_sound.false) (sym c.cadence_in.ensures ∙ c.if-not-cadence_in.false) (sym c.update_answer.ensures ∙ c.in-Err.is))

@@ -1,14 +1,17 @@
 -- `is_sound`: a profile is accepted where its test holds.
-use Rattle.player.proofs.Laws.{sound-yes, sound-no}
+use Rattle.std.specs.Prelude.{Ok, Result, ⊤, is_ok}
+use mathlib.Core.Bool.{Bool, true, false}
+use mathlib.Core.Path.{◌≡◌, refl, ap, ◌∙◌}
+use Rattle.refusal.specs.declared.Refusal.{Refusal}
 use Rattle.refusal.specs.declared.Refusal.TheVariants as refusals
+use Rattle.refusal.specs.Number.{ask}
 use Rattle.zones.specs.Zones.{profile_ok, profile_answer}
-use mathlib.Core.Path.{sym, ◌∙◌}
 use Rattle.player.proofs.is_sound.Goals as goal
 
-pub returns-in-Accepted : goal.returns-in-Accepted
-unfolding profile_answer
-returns-in-Accepted c = sound-yes (profile_ok c.args.profile) refusals.Profile (sym c.check.ensures ∙ c.in-Accepted.is)
+asked : (t : Bool) → is_ok (ask t refusals.Profile (Ok tt)) ≡ t
+asked true = refl
+asked false = refl
 
-pub returns-in-Refused : goal.returns-in-Refused
+pub returns : goal.returns
 unfolding profile_answer
-returns-in-Refused c = sound-no (profile_ok c.args.profile) refusals.Profile _ (sym c.check.ensures ∙ c.in-Refused.is)
+returns c = c.is_ok.ensures.value ∙ ap (λ (a : Result ⊤ Refusal). is_ok a) c.check.ensures ∙ asked (profile_ok c.args.profile)

@@ -1,5 +1,5 @@
 -- `mean`: one case for each count; each quotient has 16 bits.
-use Rattle.power.specs.declared.ReadingOption.TheVariants.{Some}
+use Rattle.std.specs.Prelude.{Some}
 use Rattle.power.specs.Power.{mean_by}
 use native.Mathlib.Omega.{arith}
 use mathlib.Core.Path.{◌≡◌, ap}

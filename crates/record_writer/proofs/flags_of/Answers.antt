@@ -16,5 +16,5 @@ pub returns : goal.returns
 unfolding flags_of
 returns c =
     ap₂ (λ (x y : ℕ). x + y) c.flag_of-finished.ensures.0
-    (ap₂ (λ (x y : ℕ). x + y) (c.flag_of-dated.ensures.0 ∙ ap (λ (t : Bool). flag t 2) c.is_dated.ensures)
-    (c.flag_of-measured.ensures.0 ∙ ap (λ (t : Bool). flag t 4) c.is_some.ensures))
+    (ap₂ (λ (x y : ℕ). x + y) (c.flag_of-dated.ensures.0 ∙ ap (λ (t : Bool). flag t 2) c.is_some.ensures)
+    (c.flag_of-measured.ensures.0 ∙ ap (λ (t : Bool). flag t 4) c.is_some-2.ensures))

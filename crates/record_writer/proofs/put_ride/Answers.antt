@@ -13,7 +13,7 @@ returns c = let a = c.args in
     let d = a.out.now in
     let r = a.stored in
     let flags = c.flags_of-flags.result in
-    let ms = c.start_ms-start.result in
+    let ms = c.unwrap_or-start.result in
     let two = r.journal ∷ flags ∷ [] in
     let id = bytes_of 4 r.ride_id in
     let at-id = length-bytes 4 r.ride_id in
@@ -22,4 +22,4 @@ returns c = let a = c.args in
     (more d 6 (omega arith) two id 8 refl
     (more d 6 (omega arith) (r.journal ∷ []) (flags ∷ []) 7 refl c.put_u8.ensures c.put_u8-2.ensures)
     c.put_u32.ensures) c.put_u64.ensures) c.put_u8-3.ensures
-    ∙ ap₂ (λ (f v : ℕ). written d 6 ((((r.journal ∷ f ∷ []) ++ id) ++ bytes_of 8 v) ++ (r.name.len ∷ []))) c.flags_of-flags.ensures c.start_ms-start.ensures
+    ∙ ap₂ (λ (f v : ℕ). written d 6 ((((r.journal ∷ f ∷ []) ++ id) ++ bytes_of 8 v) ++ (r.name.len ∷ []))) c.flags_of-flags.ensures c.unwrap_or-start.ensures

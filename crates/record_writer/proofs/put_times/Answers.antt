@@ -15,7 +15,7 @@ returns c = let a = c.args in
     let mi = c.millis_of-2.result in
     let mu = c.millis_of-3.result in
     let mo = c.millis_of-4.result in
-    let watts = c.or_zero-watts.result in
+    let watts = c.unwrap_or-watts.result in
     let t = bytes_of 4 mt in
     let i = bytes_of 4 mi in
     let u = bytes_of 4 mu in
@@ -30,4 +30,4 @@ returns c = let a = c.args in
     (more d 48 (omega arith) t i 52 (omega (arith, length-bytes 4 mt)) c.put_u32.ensures c.put_u32-2.ensures)
     c.put_u32-3.ensures) c.put_u32-4.ensures) c.put_u16.ensures) c.put_u32-5.ensures
     ∙ ap (written d 48)
-    (times-same mt mi mu mo watts mn c.millis_of.ensures c.millis_of-2.ensures c.millis_of-3.ensures c.millis_of-4.ensures c.or_zero-watts.ensures c.millis_of-5.ensures)
+    (times-same mt mi mu mo watts mn c.millis_of.ensures c.millis_of-2.ensures c.millis_of-3.ensures c.millis_of-4.ensures c.unwrap_or-watts.ensures c.millis_of-5.ensures)

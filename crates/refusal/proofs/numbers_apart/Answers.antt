@@ -1,4 +1,5 @@
 -- `numbers_apart`: the answer of a number, which undoes `answer_number`.
+use Rattle.std.specs.Prelude.{Err, Ok, Result, ⊤}
 use mathlib.Core.Path.{◌≡◌, refl, sym, ap, ◌∙◌}
 use mathlib.Core.Bool.{cond}
 use mathlib.Core.List.{List, [], ◌∷◌}
@@ -8,8 +9,6 @@ use Rattle.refusal.specs.declared.Invalid.TheVariants.{NoSteps, Block, Step, Too
 use Rattle.refusal.specs.declared.Refusal.{Refusal}
 use Rattle.refusal.specs.declared.Refusal.TheVariants.{Length, Magic, Version, Checksum, Field, Profile, Cadence, Update, Totals, EventPlaces, Extra, SheetLength, Act, Record, Output, Standing, BikeNumber}
 use Rattle.refusal.specs.declared.Refusal.TheVariants as cases
-use Rattle.refusal.specs.declared.Answer.{Answer}
-use Rattle.refusal.specs.declared.Answer.TheVariants.{Accepted, Refused}
 use Rattle.refusal.specs.Number.{question_number, answer_number}
 use Rattle.refusal.proofs.numbers_apart.Goals as goal
 
@@ -19,14 +18,14 @@ refusals =
     ∷ cases.Invalid NoSteps ∷ cases.Invalid Block ∷ cases.Invalid Step ∷ cases.Invalid TooLong
     ∷ Profile ∷ Cadence ∷ Update ∷ Totals ∷ EventPlaces ∷ Extra ∷ SheetLength ∷ Act ∷ Record ∷ Output ∷ Standing ∷ BikeNumber ∷ []
 
-first_of : List Refusal → ℕ → Answer
-first_of [] number = Accepted
-first_of (r ∷ rs) number = cond (eqb (question_number r) number) (Refused r) (first_of rs number)
+first_of : List Refusal → ℕ → Result ⊤ Refusal
+first_of [] number = Ok tt
+first_of (r ∷ rs) number = cond (eqb (question_number r) number) (Err r) (first_of rs number)
 
-abbrev answer_of : ℕ → Answer
+abbrev answer_of : ℕ → Result ⊤ Refusal
 answer_of number = first_of refusals number
 
-undone : (r : Refusal) → answer_of (question_number r) ≡ Refused r
+undone : (r : Refusal) → answer_of (question_number r) ≡ Err r
 unfolding first_of question_number
 undone Length = refl
 undone Magic = refl
@@ -50,16 +49,16 @@ undone Output = refl
 undone Standing = refl
 undone BikeNumber = refl
 
-undone-answer : (a : Answer) → answer_of (answer_number a) ≡ a
+undone-answer : (a : Result ⊤ Refusal) → answer_of (answer_number a) ≡ a
 unfolding first_of question_number
-undone-answer Accepted = refl
-undone-answer (Refused r) = undone r
+undone-answer (Ok tt) = refl
+undone-answer (Err r) = undone r
 
-apart : (a b : Answer) → answer_number a ≡ answer_number b → a ≡ b
+apart : (a b : Result ⊤ Refusal) → answer_number a ≡ answer_number b → a ≡ b
 apart a b e = sym (undone-answer a) ∙ ap answer_of e ∙ undone-answer b
 
 refusals-apart : (a b : Refusal) → question_number a ≡ question_number b → a ≡ b
-refusals-apart a b e = let same : Refused a ≡ Refused b = apart (Refused a) (Refused b) e in cc
+refusals-apart a b e = let same : Err a ≡ Err b = apart (Err a) (Err b) e in cc
 
 pub returns : goal.returns
 returns c = record { refusals = refusals-apart; answers = apart }

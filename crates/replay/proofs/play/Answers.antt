@@ -47,15 +47,9 @@ update_answer-asked-requires c = let a = c.args in let l = c.loop-i in
 pub overflow_cast-i : goal.overflow_cast-i
 overflow_cast-i c = omega (arith, c.loop-i-test.true, c.requires.3, c.requires.4)
 
-pub returns-in-Refused : goal.returns-in-Refused
-returns-in-Refused c = let a = c.args in let l = c.loop-i in
-    c.nothing_ridden.ensures ∙ ap nothing_ridden c.refused_at.ensures ∙ ride-refused a.fresh.workout a.profile a.sheet.now a.n a.fresh.core a.fresh.minute l.core l.minute l.i l.invariant.0 c.reading_fits.ensures c.loop-i-test.true c.requires.1 c.if-kind-eq2.true c.get_u32.result c.get_u32-then-kind-eq2.result c.get_u32.ensures c.get_u32-then-kind-eq2.ensures _ (sym c.update_answer-asked.ensures ∙ c.in-Refused.is)
-
-pub overflow_add-i : goal.overflow_add-i
-overflow_add-i c = omega (arith, c.loop-i-test.true, c.requires.3, c.requires.4)
-
-pub loop-i-smaller-then-ms-eq0 : goal.loop-i-smaller-then-ms-eq0
-loop-i-smaller-then-ms-eq0 c = omega (arith, c.loop-i-test.true)
+pub returns-in-Err : goal.returns-in-Err
+returns-in-Err c = let a = c.args in let l = c.loop-i in
+    c.nothing_ridden.ensures ∙ ap nothing_ridden c.refused_at.ensures ∙ ride-refused a.fresh.workout a.profile a.sheet.now a.n a.fresh.core a.fresh.minute l.core l.minute l.i l.invariant.0 c.reading_fits.ensures c.loop-i-test.true c.requires.1 c.if-kind-eq2.true c.get_u32.result c.get_u32-then-kind-eq2.result c.get_u32.ensures c.get_u32-then-kind-eq2.ensures _ (sym c.update_answer-asked.ensures ∙ c.in-Err.is)
 
 pub loop-i-preserved-then-ms-eq0 : goal.loop-i-preserved-then-ms-eq0
 loop-i-preserved-then-ms-eq0 c = let a = c.args in let l = c.loop-i in (idle-next a.fresh.workout a.profile a.sheet.now a.n a.fresh.core a.fresh.minute l.core l.minute l.i l.invariant.0 c.reading_fits.ensures c.loop-i-test.true c.requires.1 c.if-kind-eq2.true c.get_u32.result c.get_u32-then-kind-eq2.result c.get_u32.ensures c.get_u32-then-kind-eq2.ensures (sym c.update_answer-asked.ensures ∙ c.in_default.is) c.if-ms-eq0.true, l.invariant.1, l.invariant.2)
@@ -98,12 +92,6 @@ loop-j-preserved c = let a = c.args in let l = c.loop-i in let r = c.loop-j in l
   c.turn-ride.auto.values ∙ r.invariant.2,
 )
 
-pub overflow_add-i-then-kind-eq2 : goal.overflow_add-i-then-kind-eq2
-overflow_add-i-then-kind-eq2 c = omega (arith, c.loop-i-test.true, c.requires.3, c.requires.4)
-
-pub loop-i-smaller-then-kind-eq2 : goal.loop-i-smaller-then-kind-eq2
-loop-i-smaller-then-kind-eq2 c = omega (arith, c.loop-i-test.true)
-
 pub loop-i-preserved-then-kind-eq2 : goal.loop-i-preserved-then-kind-eq2
 loop-i-preserved-then-kind-eq2 c = let a = c.args in let l = c.loop-i in let r = c.loop-j in (
   ride-next a.fresh.workout a.profile a.sheet.now a.n a.fresh.core a.fresh.minute l.core l.minute l.i l.invariant.0 c.reading_fits.ensures c.loop-i-test.true c.requires.1 c.if-kind-eq2.true c.get_u32.result c.get_u32-then-kind-eq2.result c.get_u32.ensures c.get_u32-then-kind-eq2.ensures (sym c.update_answer-asked.ensures ∙ c.in_default.is) c.add_totals.result r.ride c.add_totals.ensures c.if-ms-eq0.false (loop-done a.fresh.workout a.profile r.j c.is_stopped.result r.invariant.0 c.is_stopped.ensures c.loop-j-test.false),
@@ -121,12 +109,6 @@ pub returns-then-not-cadence_in : goal.returns-then-not-cadence_in
 returns-then-not-cadence_in c = let a = c.args in let l = c.loop-i in
     c.nothing_ridden-then-not-cadence_in.ensures ∙ ap nothing_ridden c.refused_at-then-not-cadence_in.ensures ∙ read-refused a.fresh.workout a.profile a.sheet.now a.n a.fresh.core a.fresh.minute l.core l.minute l.i l.invariant.0 c.reading_fits.ensures c.loop-i-test.true c.if-kind-eq1.true c.sample_at-sample.result c.sample_at-sample.ensures (sym c.cadence_in.ensures ∙ c.if-not-cadence_in.true)
 
-pub overflow_add-i-then-kind-eq1 : goal.overflow_add-i-then-kind-eq1
-overflow_add-i-then-kind-eq1 c = omega (arith, c.loop-i-test.true, c.requires.3, c.requires.4)
-
-pub loop-i-smaller-then-kind-eq1 : goal.loop-i-smaller-then-kind-eq1
-loop-i-smaller-then-kind-eq1 c = omega (arith, c.loop-i-test.true)
-
 pub loop-i-preserved-then-kind-eq1 : goal.loop-i-preserved-then-kind-eq1
 loop-i-preserved-then-kind-eq1 c = let a = c.args in let l = c.loop-i in
     (read_next a.fresh.workout a.profile a.sheet.now a.n a.fresh.core a.fresh.minute l.core l.minute l.i l.invariant.0 c.reading_fits.ensures c.loop-i-test.true c.if-kind-eq1.true c.sample_at-sample.result c.sample_at-sample.ensures c.read-core.result c.read-core.ensures (sym c.cadence_in.ensures ∙ c.if-not-cadence_in.false), l.invariant.1, l.invariant.2)
@@ -137,18 +119,12 @@ act_at-act-requires c = (c.requires.3, c.loop-i-test.true, c.requires.4)
 pub quiet_act-acted-requires : goal.quiet_act-acted-requires
 quiet_act-acted-requires c = let a = c.args in let l = c.loop-i in (l.invariant.0.ready, ap is_quiet c.act_at-act.ensures ∙ quiet-in a.sheet.now a.n l.i c.if-kind-eq1.false c.if-kind-eq2.false, l.invariant.1, l.invariant.2)
 
-pub overflow_cast-i-in-Refused-answer : goal.overflow_cast-i-in-Refused-answer
-overflow_cast-i-in-Refused-answer c = omega (arith, c.loop-i-test.true, c.requires.3, c.requires.4)
+pub overflow_cast-i-in-Err-answer : goal.overflow_cast-i-in-Err-answer
+overflow_cast-i-in-Err-answer c = omega (arith, c.loop-i-test.true, c.requires.3, c.requires.4)
 
-pub returns-in-Refused-answer : goal.returns-in-Refused-answer
-returns-in-Refused-answer c = let a = c.args in let l = c.loop-i in
-    c.nothing_ridden-in-Refused-answer.ensures ∙ ap nothing_ridden c.refused_at-in-Refused-answer.ensures ∙ at-refused a.fresh.workout a.profile a.sheet.now a.n a.fresh.core a.fresh.minute l.core l.minute l.i l.invariant.0 _ _ _ c.loop-i-test.true c.act_at-act.ensures c.quiet_act-acted.ensures.0 c.in-Refused-answer.is
-
-pub overflow_add-i-in-loop-i : goal.overflow_add-i-in-loop-i
-overflow_add-i-in-loop-i c = omega (arith, c.loop-i-test.true, c.requires.3, c.requires.4)
-
-pub loop-i-smaller : goal.loop-i-smaller
-loop-i-smaller c = omega (arith, c.loop-i-test.true)
+pub returns-in-Err-answer : goal.returns-in-Err-answer
+returns-in-Err-answer c = let a = c.args in let l = c.loop-i in
+    c.nothing_ridden-in-Err-answer.ensures ∙ ap nothing_ridden c.refused_at-in-Err-answer.ensures ∙ at-refused a.fresh.workout a.profile a.sheet.now a.n a.fresh.core a.fresh.minute l.core l.minute l.i l.invariant.0 _ _ _ c.loop-i-test.true c.act_at-act.ensures c.quiet_act-acted.ensures.0 c.in-Err-answer.is
 
 pub loop-i-preserved : goal.loop-i-preserved
 loop-i-preserved c = let a = c.args in let l = c.loop-i in (

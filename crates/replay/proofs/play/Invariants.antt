@@ -16,6 +16,3 @@ decreases-loop-j l = 97 - l.j
 abbrev pub invariant-loop-i : goal.invariant-loop-i
 invariant-loop-i l =
     At l.workout l.profile l.sheet l.n l.initial.core l.initial.minute l.core l.minute l.i × (length l.kinds ≡ 193) × (length l.values ≡ 193)
-
-abbrev pub decreases-loop-i : goal.decreases-loop-i
-decreases-loop-i l = l.n - l.i

@@ -22,15 +22,15 @@ play-requires c = let a = c.args in
     let n = c.count_of-n.ensures.0 in
     let twelve : length a.fresh.workout.steps ≡ 12 = search rules in
     let sixty : length a.fresh.minute ≡ 60 = search (rules, c.well_formed.0.1.1.1.1.1.0) in
-    (fresh-ready a.fresh c.requires.0 twelve sixty, profile-passed a.fresh a.sheet.now _ _ n c.profile_at-profile.ensures (sym c.check.ensures ∙ c.in-Accepted.is), omega (arith, n, z.some), omega (arith, n, z.most), z.long ∙ ap (λ (k : ℕ). 2 + 9 * k) (sym n))
+    (fresh-ready a.fresh c.requires.0 twelve sixty, profile-passed a.fresh a.sheet.now _ _ n c.profile_at-profile.ensures (sym c.check.ensures ∙ c.in-Ok.is), omega (arith, n, z.some), omega (arith, n, z.most), z.long ∙ ap (λ (k : ℕ). 2 + 9 * k) (sym n))
 
-pub returns-in-Accepted : goal.returns-in-Accepted
-returns-in-Accepted c = let a = c.args in
+pub returns-in-Ok : goal.returns-in-Ok
+returns-in-Ok c = let a = c.args in
     let twelve : length a.fresh.workout.steps ≡ 12 = search rules in
     c.play.ensures ∙ ap (play_acts a.fresh.workout c.profile_at-profile.result (acts_from a.sheet.now c.count_of-n.result 1 (c.count_of-n.result - 1)) 1) (fresh-made-of a.fresh c.requires.0 twelve)
-    ∙ sheet-played a.fresh a.sheet.now _ _ c.count_of-n.ensures.0 c.profile_at-profile.ensures (sym c.check.ensures ∙ c.in-Accepted.is)
+    ∙ sheet-played a.fresh a.sheet.now _ _ c.count_of-n.ensures.0 c.profile_at-profile.ensures (sym c.check.ensures ∙ c.in-Ok.is)
 
-pub returns-in-Refused : goal.returns-in-Refused
-returns-in-Refused c = let a = c.args in
+pub returns-in-Err : goal.returns-in-Err
+returns-in-Err c = let a = c.args in
     c.nothing_ridden.ensures ∙ ap nothing_ridden c.refused_at.ensures
-    ∙ profile-refused a.fresh a.sheet.now _ _ c.count_of-n.ensures.0 c.profile_at-profile.ensures _ (sym c.check.ensures ∙ c.in-Refused.is)
+    ∙ profile-refused a.fresh a.sheet.now _ _ c.count_of-n.ensures.0 c.profile_at-profile.ensures _ (sym c.check.ensures ∙ c.in-Err.is)

@@ -11,29 +11,29 @@ use mathlib.Core.Path.{sym, ap, subst, ◌∙◌}
 use Rattle.decode.specs.Decode.{decode_of}
 use Rattle.replay.proofs.ride_sheet.Goals as goal
 
-pub returns-in-Refused : goal.returns-in-Refused
-returns-in-Refused c = let a = c.args in
+pub returns-in-Err : goal.returns-in-Err
+returns-in-Err c = let a = c.args in
     c.nothing_ridden.ensures ∙ ap nothing_ridden c.refused_at.ensures
-    ∙ file-refused a.file.now a.sheet.now a.room _ (sym (ap (λ (d : Decoded). d.answer) c.decode-decoded.ensures) ∙ c.in-Refused.is)
+    ∙ file-refused a.file.now a.sheet.now a.room _ (sym (ap (λ (d : Decoded). d.answer) c.decode-decoded.ensures) ∙ c.in-Err.is)
 
-pub returns-in-Refused-begun : goal.returns-in-Refused-begun
-returns-in-Refused-begun c = let a = c.args in
+pub returns-in-Err-begun : goal.returns-in-Err-begun
+returns-in-Err-begun c = let a = c.args in
     let f = a.file.now in
     let s = a.sheet.now in
     let e = sym (ap (λ (d : Decoded). d.answer) c.decode-decoded.ensures) ∙ c.in_default.is in
     let m = c.new-made.ensures ∙ ap (λ (d : Decoded). new_of d.workout) c.decode-decoded.ensures in
-    c.nothing_ridden-in-Refused-begun.ensures ∙ ap nothing_ridden c.refused_at-in-Refused-begun.ensures
-    ∙ new-refused f s a.room e _ (sym (ap (λ (m : NewPlayer). m.answer) m) ∙ c.in-Refused-begun.is)
+    c.nothing_ridden-in-Err-begun.ensures ∙ ap nothing_ridden c.refused_at-in-Err-begun.ensures
+    ∙ new-refused f s a.room e _ (sym (ap (λ (m : NewPlayer). m.answer) m) ∙ c.in-Err-begun.is)
 
-pub returns-in-Refused-acts : goal.returns-in-Refused-acts
-returns-in-Refused-acts c = let a = c.args in
+pub returns-in-Err-acts : goal.returns-in-Err-acts
+returns-in-Err-acts c = let a = c.args in
     let f = a.file.now in
     let s = a.sheet.now in
     let e = sym (ap (λ (d : Decoded). d.answer) c.decode-decoded.ensures) ∙ c.in_default.is in
     let m = c.new-made.ensures ∙ ap (λ (d : Decoded). new_of d.workout) c.decode-decoded.ensures in
     let g = sym (ap (λ (m : NewPlayer). m.answer) m) ∙ c.in_default-begun.is in
-    c.nothing_ridden-in-Refused-acts.ensures ∙ ap nothing_ridden c.check-checked.ensures
-    ∙ sheet-refused f s a.room e g _ (sym (ap (λ (x : ActAnswer). x.answer) c.check-checked.ensures) ∙ c.in-Refused-acts.is)
+    c.nothing_ridden-in-Err-acts.ensures ∙ ap nothing_ridden c.check-checked.ensures
+    ∙ sheet-refused f s a.room e g _ (sym (ap (λ (x : ActAnswer). x.answer) c.check-checked.ensures) ∙ c.in-Err-acts.is)
 
 pub returns-then-room-lt-RECORD_BYTES : goal.returns-then-room-lt-RECORD_BYTES
 returns-then-room-lt-RECORD_BYTES c = let a = c.args in

@@ -7,13 +7,13 @@ use Rattle.reports.proofs.now.Goals as goal
 pub now_in-requires : goal.now_in-requires
 now_in-requires c = report-fits c.args.player (sym c.is_standing.ensures ∙ c.if-is_standing.true)
 
-pub returns-in-Accepted : goal.returns-in-Accepted
+pub returns-in-Ok : goal.returns-in-Ok
 unfolding now_of
-returns-in-Accepted c = simp (sym c.is_standing.ensures ∙ c.if-is_standing.true, sym c.check-answer.ensures ∙ c.in-Accepted.is, c.now_in.ensures)
+returns-in-Ok c = simp (sym c.is_standing.ensures ∙ c.if-is_standing.true, sym c.check-answer.ensures ∙ c.in-Ok.is, c.now_in.ensures)
 
-pub returns-in-Refused : goal.returns-in-Refused
+pub returns-in-Err : goal.returns-in-Err
 unfolding now_of
-returns-in-Refused c = simp (sym c.is_standing.ensures ∙ c.if-is_standing.true, sym c.check-answer.ensures ∙ c.in-Refused.is, c.no_now.ensures)
+returns-in-Err c = simp (sym c.is_standing.ensures ∙ c.if-is_standing.true, sym c.check-answer.ensures ∙ c.in-Err.is, c.no_now.ensures)
 
 pub returns : goal.returns
 unfolding now_of

@@ -1,5 +1,4 @@
 -- `core_ok`: the totals are asked first, so that no sum or product below wraps.
-use borrow.Author.Tests.{lt-leb}
 use Rattle.standing.specs.Standing.{core_ok}
 use mathlib.Core.Path.{sym, ◌∙◌}
 use Rattle.standing.proofs.core_ok.Goals as goal
@@ -11,7 +10,3 @@ returns-then-not-totals_ok c = simp (sym c.totals_ok.ensures ∙ c.if-not-totals
 pub returns-then-core-le604800000 : goal.returns-then-core-le604800000
 unfolding core_ok
 returns-then-core-le604800000 c = simp (sym c.totals_ok.ensures ∙ c.if-not-totals_ok.false, c.readings_ok.ensures, c.measured_ok.ensures, c.tallies_ok.ensures, c.lap_ok.ensures, c.counts_ok.ensures)
-
-pub returns : goal.returns
-unfolding core_ok
-returns c = simp (lt-leb _ _ c.if-core-le604800000.false)

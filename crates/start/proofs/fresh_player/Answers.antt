@@ -4,4 +4,4 @@ use Rattle.start.proofs.fresh_player.Goals as goal
 
 pub returns : goal.returns
 unfolding fresh
-returns c = simp (c.fresh_core.ensures, c.played_len.ensures, c.played_at-shown.ensures)
+returns c = simp (c.fresh_core.ensures, c.played_len.ensures, c.unwrap_or-first.ensures, c.played_at.ensures)

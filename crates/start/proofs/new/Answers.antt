@@ -7,15 +7,15 @@ use mathlib.Core.Path.{sym, ◌∙◌}
 use Rattle.start.proofs.new.Goals as goal
 
 pub fresh_player-requires : goal.fresh_player-requires
-fresh_player-requires c = (passes c.args.workout (sym c.check-answer.ensures ∙ c.in-Accepted.is)).most
+fresh_player-requires c = (passes c.args.workout (sym c.check-answer.ensures ∙ c.in-Ok.is)).most
 
-pub fresh_player-requires-in-Refused : goal.fresh_player-requires-in-Refused
-fresh_player-requires-in-Refused c = rw c.empty_workout.ensures (omega (arith, empty-plays))
+pub fresh_player-requires-in-Err : goal.fresh_player-requires-in-Err
+fresh_player-requires-in-Err c = rw c.empty_workout.ensures (omega (arith, empty-plays))
 
-pub returns-in-Accepted : goal.returns-in-Accepted
+pub returns-in-Ok : goal.returns-in-Ok
 unfolding new_of
-returns-in-Accepted c = simp (sym c.check-answer.ensures ∙ c.in-Accepted.is, c.fresh_player.ensures)
+returns-in-Ok c = simp (sym c.check-answer.ensures ∙ c.in-Ok.is, c.fresh_player.ensures)
 
-pub returns-in-Refused : goal.returns-in-Refused
+pub returns-in-Err : goal.returns-in-Err
 unfolding new_of
-returns-in-Refused c = simp (sym c.check-answer.ensures ∙ c.in-Refused.is, c.fresh_player-in-Refused.ensures, c.empty_workout.ensures)
+returns-in-Err c = simp (sym c.check-answer.ensures ∙ c.in-Err.is, c.fresh_player-in-Err.ensures, c.empty_workout.ensures)

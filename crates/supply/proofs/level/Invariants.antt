@@ -6,7 +6,7 @@ use Rattle.supply.proofs.level.Given as goal
 
 abbrev pub invariant-loop-high : goal.invariant-loop-high
 invariant-loop-high l =
-    (l.low < l.high) × (l.high ≤ l.supply) × (l.supply ≤ 262140) × (sum (at_level l.low l.wants) ≤ l.supply) × (l.supply < sum (at_level l.high l.wants))
+    (l.low < l.high) × (l.high ≤ l.supply) × (sum (at_level l.low l.wants) ≤ l.supply) × (l.supply < sum (at_level l.high l.wants))
 
 abbrev pub decreases-loop-high : goal.decreases-loop-high
 decreases-loop-high l = l.high - l.low

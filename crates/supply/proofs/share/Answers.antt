@@ -10,6 +10,6 @@ use Rattle.supply.proofs.share.Goals as goal
 pub returns : goal.returns
 returns c =
     let a = c.args in
-    c.up_to.ensures.0
+    c.up_to.ensures
     ∙ ap (min (get_or a.wants a.bike 0)) c.level.ensures
     ∙ sym (ap (λ (grants : List ℕ). get_or grants a.bike 0) (grants-are a.wants a.supply) ∙ place_at (level_of a.wants a.supply) a.wants a.bike)

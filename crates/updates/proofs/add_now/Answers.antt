@@ -1,12 +1,12 @@
 -- `add_now`: 0 ms does nothing; else the reading is taken, and the core still stands.
+use Rattle.std.specs.Prelude.{Ok}
 use Rattle.outcomes.proofs.Laws.{answers-is, eventless-answers}
 use Rattle.updates.proofs.Laws.{add-idle, add-rode, read-supposes}
-use Rattle.refusal.specs.declared.Answer.TheVariants.{Accepted}
 use Rattle.updates.proofs.add_now.Goals as goal
 
 pub returns-then-ms-eq0 : goal.returns-then-ms-eq0
 returns-then-ms-eq0 c = let a = c.args in
-    eventless-answers _ _ a.player _ _ Accepted c.plain.ensures (add-idle a.player a.ms.0 a.mm.0 a.sample a.profile c.if-ms-eq0.true)
+    eventless-answers _ _ a.player _ _ (Ok tt) c.plain.ensures (add-idle a.player a.ms.0 a.mm.0 a.sample a.profile c.if-ms-eq0.true)
 
 pub ride_now-requires : goal.ride_now-requires
 ride_now-requires c = let a = c.args in

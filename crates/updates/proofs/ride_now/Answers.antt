@@ -1,14 +1,14 @@
 -- `ride_now`: 0 ms does nothing; else the loop on the core and its minute.
+use Rattle.std.specs.Prelude.{Ok}
 use Rattle.outcomes.proofs.Laws.{eventless-answers}
 use Rattle.updates.proofs.Laws.{ride-idle, ride-made}
-use Rattle.refusal.specs.declared.Answer.TheVariants.{Accepted}
 use lib.ListN.{length}
 use mathlib.Core.Path.{◌≡◌}
 use borrow.Author.Rules.{rules}
 use Rattle.updates.proofs.ride_now.Goals as goal
 
 pub returns-then-ms-eq0 : goal.returns-then-ms-eq0
-returns-then-ms-eq0 c = eventless-answers _ _ c.args.player _ _ Accepted c.plain.ensures (ride-idle c.args.player c.args.ms.0 c.args.mm.0 c.args.profile c.if-ms-eq0.true)
+returns-then-ms-eq0 c = eventless-answers _ _ c.args.player _ _ (Ok tt) c.plain.ensures (ride-idle c.args.player c.args.ms.0 c.args.mm.0 c.args.profile c.if-ms-eq0.true)
 
 pub ride_core-ride-requires : goal.ride_core-ride-requires
 ride_core-ride-requires c = let a = c.args in

@@ -1,14 +1,14 @@
 -- `skip_now`: done does nothing; else the step ends.
+use Rattle.std.specs.Prelude.{Ok}
 use Rattle.outcomes.proofs.Laws.{eventless-answers}
 use Rattle.updates.proofs.Laws.{going-wants, skip-idle, skip-made}
 use Rattle.rounds.proofs.Keeps.{not-done-below}
 use Rattle.rounds.proofs.One.{next_fits}
-use Rattle.refusal.specs.declared.Answer.TheVariants.{Accepted}
 use native.Mathlib.Omega.{arith}
 use Rattle.updates.proofs.skip_now.Goals as goal
 
 pub returns-then-core : goal.returns-then-core
-returns-then-core c = eventless-answers _ _ c.args.player _ _ Accepted c.plain.ensures (skip-idle c.args.player c.if-core.true)
+returns-then-core c = eventless-answers _ _ c.args.player _ _ (Ok tt) c.plain.ensures (skip-idle c.args.player c.if-core.true)
 
 pub next-moved-requires : goal.next-moved-requires
 next-moved-requires c =

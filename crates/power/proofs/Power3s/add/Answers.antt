@@ -4,4 +4,4 @@ use Rattle.power.proofs.Power3s.add.Goals as goal
 
 pub returns : goal.returns
 unfolding added
-returns c = simp (c.or_zero-value.ensures, c.is_some-present.ensures)
+returns c = simp (c.unwrap_or-value.ensures, c.is_some-present.ensures)

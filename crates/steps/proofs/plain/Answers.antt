@@ -1,9 +1,0 @@
--- `plain`: the two branches are the two cases of the test.
-use borrow.Author.Tests.{eq-eqb, ne_eqb}
-use Rattle.steps.proofs.plain.Goals as goal
-
-pub returns-then-c-eq0 : goal.returns-then-c-eq0
-returns-then-c-eq0 c = simp (eq-eqb _ _ c.if-c-eq0.true)
-
-pub returns-else-c-eq0 : goal.returns-else-c-eq0
-returns-else-c-eq0 c = simp (ne_eqb _ _ c.if-c-eq0.false)
