@@ -50,7 +50,10 @@ fn all_allowed(bytes: &[u8], from: usize, n: usize) -> bool
     requires { from + n ≤ length bytes.now }
     ensures { result ≡ all allowed (take n (drop from bytes.now)) }
 {
-    bytes[from..from + n].iter().all(|byte| allowed_byte(*byte))
+    // Each byte is looked at, also past a wrong one: without an early exit this compiles to vector code, which is faster.
+    bytes[from..from + n]
+        .iter()
+        .fold(true, |ok, byte| ok & allowed_byte(*byte))
 }
 
 fn copied(bytes: &[u8], from: usize, n: usize) -> [u8; 20]

@@ -64,9 +64,11 @@ impl Name {
         ensures { result ≡ name_ok self }
     {
         let len = self.len as usize;
+        // One pass without a branch or an early exit: so it takes the same short time for each length.
         (self.len <= 20)
-            & self.bytes.iter().take(len).all(|byte| allowed_byte(*byte))
-            & self.bytes.iter().skip(len).all(|byte| *byte == 0)
+            & self.bytes.iter().enumerate().fold(true, |ok, (i, byte)| {
+                ok & (((i < len) & allowed_byte(*byte)) | ((len <= i) & (*byte == 0)))
+            })
     }
 
     // The name is the empty one, padding included.

@@ -1,10 +1,9 @@
 -- Questions 16 and 17, case by case.
-use Rattle.std.specs.Prelude.{Err, None, Ok, Some, not, unwrap_or}
-use Rattle.std.specs.List.{find, range_with_len}
+use Rattle.std.specs.Prelude.{Err, None, Ok, Some}
 use mathlib.Core.Path.{◌≡◌, refl, sym, ap, ◌∙◌}
 use mathlib.Core.Bool.{Bool, true, false, cond, ◌&&◌, and-false}
 use mathlib.Core.List.{List}
-use Prim.Native.Nat.{ℕ, zero, suc, ◌+◌, ◌*◌, ◌≤◌, ◌<◌}
+use Prim.Native.Nat.{ℕ, zero, suc, ◌+◌, ◌-◌, ◌*◌, ◌≤◌, ◌<◌}
 use native.Mathlib.Omega.{arith}
 use lib.Dec.{leb, eqb}
 use lib.ListN.{length}
@@ -84,13 +83,23 @@ valueless first s at (suc (suc (suc (suc zero)))) h g = refl
 valueless first s at (suc (suc (suc (suc (suc zero))))) h g = refl
 valueless first s at (suc (suc (suc (suc (suc (suc kind)))))) h g = absurd (omega arith)
 
--- what a search of the k places from i on finds, or the place e behind them, is the first act at fault
-pub found-fault : (s : List ℕ) (n i k e : ℕ) → i + k ≡ e → unwrap_or (find (λ j. not (act_ok s n j)) (range_with_len i k)) e ≡ fault_from s n i k
-unfolding fault_from
-found-fault s n i zero e h = omega arith
-found-fault s n i (suc k) e h = at (act_ok s n i) (found-fault s n (i + 1) k e (omega arith))
-  where
-    at : (b : Bool) → unwrap_or (find (λ j. not (act_ok s n j)) (range_with_len (i + 1) k)) e ≡ fault_from s n (i + 1) k
-        → unwrap_or (cond (not b) (Some i) (find (λ j. not (act_ok s n j)) (range_with_len (i + 1) k))) e ≡ cond b (fault_from s n (i + 1) k) i
-    at true rest = rest
-    at false rest = refl
+-- the first act at fault, from place i on
+module _ (s : List ℕ) (n i : ℕ) where
+  one_less : i < n → n - i ≡ suc (n - (i + 1))
+  one_less h = omega arith
+
+  pub fault-next : i < n → act_ok s n i ≡ true → fault_from s n (i + 1) (n - (i + 1)) ≡ fault_from s n i (n - i)
+  unfolding fault_from
+  fault-next h e =
+      sym (ap (fault_from s n i) (one_less h) ∙ ap (λ (b : Bool). cond b (fault_from s n (i + 1) (n - (i + 1))) i) e)
+
+  pub fault-here : i < n → act_ok s n i ≡ false → i ≡ fault_from s n i (n - i)
+  unfolding fault_from
+  fault-here h e = sym (ap (fault_from s n i) (one_less h) ∙ ap (λ (b : Bool). cond b (fault_from s n (i + 1) (n - (i + 1))) i) e)
+
+  pub fault-end : n ≤ i → i ≡ fault_from s n i (n - i)
+  unfolding fault_from
+  fault-end h = let none : n - i ≡ 0 = omega arith in sym (ap (fault_from s n i) none)
+
+pub fault-start : (s : List ℕ) (n : ℕ) → fault_from s n 0 (n - 0) ≡ fault_from s n 0 n
+fault-start s n = let all : n - 0 ≡ n = omega arith in ap (fault_from s n 0) all

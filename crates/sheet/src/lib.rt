@@ -149,12 +149,17 @@ fn is_act(sheet: &[u8], n: usize, i: usize) -> bool
     }
 }
 
-// The first act that question 17 refuses, `n` if there is none.
+// The first act that question 17 refuses, `n` if there is none. A `for`: `find` takes a fifth more instructions an act.
 fn first_fault(sheet: &[u8], n: usize) -> usize
     requires { (n ≤ 4096) × (length sheet.now ≡ 2 + 9 * n) }
     ensures { result ≡ fault_from sheet.now n 0 n }
 {
-    (0..n).find(|i| !is_act(sheet, n, *i)).unwrap_or(n)
+    for i in 0..n {
+        if !is_act(sheet, n, i) {
+            return i;
+        }
+    }
+    n
 }
 
 // Question 16, then 17, which names the first act at fault.

@@ -1,18 +1,17 @@
--- `first_fault`: what the library finds is the first act that the definition does not pass.
-use Rattle.std.proofs.Common.{rules, tests, arith, refl, ◌≡◌, ◌∙◌, ap, sym, ℕ, Bool, not, Option, unwrap_or}
-use Rattle.std.specs.List.{find, range_with_len}
-use Rattle.std.proofs.lemmas.Iterator.{YieldsList-from_range}
-use Rattle.std.proofs.lemmas.Iterator.Search.{find_from_yields_List}
-use Rattle.std.proofs.lemmas.Iterator.Adapters.{option_map_id}
-use Rattle.sheet.specs.Sheet.{act_ok}
-use Rattle.sheet.proofs.Laws.{found-fault}
+-- `first_fault`: what is left has the first fault of all.
+use mathlib.Core.Path.{◌≡◌, sym, ◌∙◌}
+use native.Mathlib.Omega.{arith}
+use Rattle.sheet.proofs.Laws.{fault-start, fault-next, fault-here, fault-end}
 use Rattle.sheet.proofs.first_fault.Goals as goal
 
+pub loop-i-init : goal.loop-i-init
+loop-i-init c = fault-start c.args.sheet.now c.args.n
+
+pub returns-then-not-is_act : goal.returns-then-not-is_act
+returns-then-not-is_act c = let a = c.args in fault-here a.sheet.now a.n c.loop-i.i (omega arith) (sym c.is_act.ensures ∙ c.if-not-is_act.true) ∙ c.loop-i.invariant
+
+pub loop-i-preserved : goal.loop-i-preserved
+loop-i-preserved c = let a = c.args in fault-next a.sheet.now a.n c.loop-i.i (omega arith) (sym c.is_act.ensures ∙ c.if-not-is_act.false) ∙ c.loop-i.invariant
+
 pub returns : goal.returns
-returns c =
-    let a = c.args in
-    let test : ℕ → Bool = λ i. not (act_ok a.sheet.now a.n i) in
-    let found : c.find.result ≡ find test (range_with_len 0 a.n) =
-    sym (option_map_id c.find.result)
-    ∙ find_from_yields_List test _ _ c.find.result c.find.ensures.ran (YieldsList-from_range 0 a.n a.n refl (omega arith)) (λ x b q k. search (rules, tests)) in
-    c.unwrap_or.ensures ∙ ap (λ (o : Option ℕ). unwrap_or o a.n) found ∙ found-fault a.sheet.now a.n 0 a.n a.n (omega arith)
+returns c = let a = c.args in let e : c.loop-i.i ≡ a.n = omega arith in sym e ∙ fault-end a.sheet.now a.n c.loop-i.i (omega arith) ∙ c.loop-i.invariant
